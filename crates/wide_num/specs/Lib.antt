@@ -1,1 +1,4 @@
 pub mod FractionText
+pub mod LowestTerms
+pub mod Quotients
+pub mod RoomContents

@@ -5,7 +5,13 @@
 mod checked;
 mod fraction;
 mod items;
+mod lowest;
+mod quotient;
+mod reserved;
 
 pub use checked::{Wide, add, mul};
 pub use fraction::Fraction;
 pub use items::{List, Text};
+pub use lowest::reduce;
+pub use quotient::{ceil_div, floor_div};
+pub use reserved::Room;

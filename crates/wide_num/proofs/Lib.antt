@@ -1,0 +1,2 @@
+mod QuotientLemmas
+mod LowestLemmas
