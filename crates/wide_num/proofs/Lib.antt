@@ -1,2 +1,3 @@
 mod QuotientLemmas
 mod LowestLemmas
+mod UniqueLemmas

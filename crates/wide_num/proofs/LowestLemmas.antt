@@ -1,9 +1,9 @@
-use Rattle.std.proofs.Common.{◌≡◌, refl, sym, ap, ◌∙◌, subst, arith, ℕ, zero, suc, ◌*◌, ◌/◌, ◌%◌, ◌<◌, Bool, true, false, ℤ, pos, negsuc, neg_ℤ, ◌*ℤ◌, ◌<ℤ◌, ◌≤ℤ◌, unsigned_abs, int_lt}
+use Rattle.std.proofs.Common.{◌≡◌, refl, sym, ap, ◌∙◌, subst, arith, ℕ, zero, suc, ◌*◌, ◌/◌, ◌<◌, Bool, true, false, ℤ, pos, negsuc, ◌*ℤ◌, ◌<ℤ◌, ◌≤ℤ◌, unsigned_abs, int_lt}
 use Rattle.std.proofs.lemmas.Int.{ints}
 use Rattle.std.proofs.Math.Nat.{pos_of_dvd_of_pos, dvd_of_mul-dvd-mul_left, mul-dvd-mul_left, one-dvd, div-mul_cancel}
 use Rattle.std.proofs.lemmas.Nat.Gcd.{dvd_antisymm}
 use Rattle.std.specs.Int.{IsGcd, ◌∣◌}
-use Rattle.wide_num.specs.LowestTerms.{IsCoprime, IsMultiple, IsLowest, with_sign}
+use Rattle.wide_num.specs.LowestTerms.{IsCoprime, IsLowest, with_sign}
 use Rattle.wide_num.specs.declared.fraction.Fraction.{Fraction}
 
 -- the quotient by a divisor, times it
@@ -44,6 +44,7 @@ factor_above b (suc n) g e h = omega arith
 -- the test for the sign decides it
 sign_set : (a : ℤ) → int_lt a (pos 0) ≡ true → a <ℤ pos 0
 sign_set a e = grind (arith, ints)
+
 sign_clear : (a : ℤ) → int_lt a (pos 0) ≡ false → pos 0 ≤ℤ a
 sign_clear a e = grind (arith, ints)
 

@@ -15,3 +15,6 @@ pub use items::{List, Text};
 pub use lowest::reduce;
 pub use quotient::{ceil_div, floor_div};
 pub use reserved::Room;
+
+#[cfg(test)]
+mod tests;

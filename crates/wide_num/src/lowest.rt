@@ -11,6 +11,7 @@ pub fn reduce(top: i128, bottom: i128) -> Fraction
     requires fits { neg_ℤ (pos (2 ^ 127)) <ℤ top }
     ensures lowest { IsLowest top bottom result }
     ensures value { top *ℤ result.bottom ≡ result.top *ℤ bottom }
+    ensures only { (f : Fraction) → IsLowest top bottom f → f ≡ result }
 {
     let over = top.unsigned_abs();
     let under = bottom.unsigned_abs();

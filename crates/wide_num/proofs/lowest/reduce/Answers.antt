@@ -1,8 +1,9 @@
-use Rattle.std.proofs.Common.{rules, arith, refl, to_z, pos, ◌≡◌, ◌<◌, ◌*◌, ◌<ℤ◌, ◌≤ℤ◌, true, false, unsigned_abs, FitsSigned, int_lt}
+use Rattle.std.proofs.Common.{rules, FitsSigned}
 use Rattle.std.specs.Int.{w128}
-use Rattle.std.proofs.lemmas.Int.{ints, to_z-of_z}
+use Rattle.std.proofs.lemmas.Int.{to_z-of_z}
 use Rattle.wide_num.specs.LowestTerms.{IsLowest}
 use Rattle.wide_num.proofs.LowestLemmas.{lowest_from_gcd, same_value}
+use Rattle.wide_num.proofs.UniqueLemmas.{same_lowest}
 use Rattle.wide_num.proofs.lowest.reduce.Goals as goal
 
 -- what is put together is in lowest terms
@@ -44,3 +45,9 @@ returns-clause-value c =
     let top_fits : FitsSigned w128 c.signed.result = search rules in
     let bottom_fits : FitsSigned w128 c.signed-2.result = search rules in
     simp to_z-of_z (same_value c.args.top c.args.bottom (record { top = c.signed.result; bottom = c.signed-2.result }) (lowest c))
+
+pub returns-clause-only : goal.returns-clause-only
+returns-clause-only c =
+    let top_fits : FitsSigned w128 c.signed.result = search rules in
+    let bottom_fits : FitsSigned w128 c.signed-2.result = search rules in
+    λ f h. simp to_z-of_z (same_lowest c.args.top c.args.bottom f (record { top = c.signed.result; bottom = c.signed-2.result }) h (lowest c))

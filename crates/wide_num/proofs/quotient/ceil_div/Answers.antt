@@ -1,4 +1,4 @@
-use Rattle.std.proofs.Common.{rules, arith, to_z, pos, ◌+ℤ◌, ◌<ℤ◌, ◌≡◌}
+use Rattle.std.proofs.Common.{rules, arith, pos, ◌+ℤ◌, ◌<ℤ◌, ◌≡◌}
 use Rattle.std.specs.Prelude.{FitsSigned}
 use Rattle.std.specs.Int.{w128}
 use Rattle.std.proofs.lemmas.Int.{ints, to_z-of_z}
