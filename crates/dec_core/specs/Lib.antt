@@ -1,0 +1,5 @@
+pub mod DecimalValue
+pub mod Scale
+pub mod Spelling
+pub mod SpellingOfParts
+pub mod Stripped

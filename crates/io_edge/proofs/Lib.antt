@@ -1,0 +1,4 @@
+pub mod Counts
+pub mod NameOrder
+pub mod Stored
+pub mod Writing

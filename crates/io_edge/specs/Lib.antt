@@ -1,0 +1,9 @@
+pub mod Faults
+pub mod MemoryShelf
+pub mod MemorySink
+pub mod OutSink
+pub mod Shelves
+pub mod Sinks
+pub mod Streams
+pub mod SureShelf
+pub mod SureSink

@@ -1,0 +1,56 @@
+ghost use Rattle.std.specs.Prelude.{◌≡◌};
+
+use crate::faults::EdgeFault;
+use crate::sinks::Sink;
+use crate::streams::write_whole;
+use std::io::Write;
+
+/// A stream of bytes. It doesn't tell what is written, since no contract can
+/// say what every stream takes. A fault is an error of the stream, or a write
+/// that takes nothing; a `put` counts one at most. The stream isn't flushed.
+#[derive(Drop)]
+pub struct OutSink<W> {
+    out: W,
+    faults: u64,
+}
+
+impl<W: Write> OutSink<W> {
+    ghost use Rattle.io_edge.specs.OutSink.{stream_of};
+
+    /// A stream, and no fault.
+    pub fn new(out: W) -> OutSink<W>
+        ensures count { ⟦<OutSink<W> as Sink>⟧.count result ≡ 0 }
+        ensures stream { stream_of result ≡ out }
+    {
+        OutSink { out, faults: 0 }
+    }
+}
+
+impl<W: Write> Sink for OutSink<W> {
+    ghost use Rattle.std.specs.Prelude.{None};
+    ghost use Rattle.io_edge.specs.Faults.{CountsEdge, count_after_edge};
+    ghost use Rattle.io_edge.specs.OutSink.{count_of, stream_of};
+    ghost use Rattle.io_edge.specs.Sinks.{PutLeaves};
+    ghost use Rattle.io_edge.specs.Streams.{PutTakes};
+
+    ghost written = { λ _. None };
+
+    ghost count = { λ sink. sink.faults };
+
+    fn put(&mut self, bytes: &[u8]) -> Result<(), EdgeFault>
+        ensures written { PutLeaves None None bytes.now result }
+        ensures count { CountsEdge (count_of self.old) (count_of self.new) result }
+        ensures one_fault { count_of self.new ≡ count_after_edge result (count_of self.old) }
+        ensures stream { PutTakes (W.contents (stream_of self.old)) (W.contents (stream_of self.new)) bytes.now result }
+    {
+        if write_whole(&mut self.out, bytes) {
+            return Ok(());
+        }
+        self.faults = self.faults.saturating_add(1);
+        Err(EdgeFault::Failed)
+    }
+
+    fn faults(&self) -> u64 {
+        self.faults
+    }
+}

@@ -1,0 +1,5 @@
+pub mod Parts
+pub mod Found
+pub mod Numbered
+pub mod Runs
+pub mod Whole

@@ -1,0 +1,8 @@
+use Rattle.line_core.proofs.Whole.{whole_within, whole_rise}
+use Rattle.line_core.proofs.line_list.lines.Goals as goal
+
+pub returns-clause-within : goal.returns-clause-within
+returns-clause-within c = whole_within c.args.bytes.now c.read_lines.result c.read_lines.ensures
+
+pub returns-clause-rise : goal.returns-clause-rise
+returns-clause-rise c = whole_rise c.args.bytes.now c.read_lines.result c.read_lines.ensures
