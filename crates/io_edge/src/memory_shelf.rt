@@ -130,6 +130,7 @@ impl Shelf for MemoryShelf {
         ensures files { StoreLeaves (Some (files_of self.old)) (Some (files_of self.new)) name.now bytes.now result }
         ensures names { Some (names_of self.new) ≡ names_after_store result (Some (names_of self.old)) name.now }
         ensures count { CountsEdge (count_of self.old) (count_of self.new) result }
+        ensures kept { OnErr result (files_of self.new ≡ files_of self.old) }
         ensures one_fault { count_of self.new ≡ count_after_edge result (count_of self.old) }
         ensures fails { EdgeFailsIf (fails_next self.old) result }
         ensures calls { calls_of self.new ≡ calls_after_edge result (calls_of self.old) }
