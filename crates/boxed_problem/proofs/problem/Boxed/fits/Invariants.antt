@@ -1,0 +1,8 @@
+use Rattle.std.proofs.Common.{ℕ, ◌<◌}
+use Rattle.boxed_problem.specs.Facts.{limits_at}
+use Rattle.boxed_problem.specs.PriceFit.{HasSign}
+use Rattle.boxed_problem.specs.Sums.{number_at}
+use Rattle.boxed_problem.proofs.problem.Boxed.fits.Given as goal
+
+abbrev pub invariant-loop-i : goal.invariant-loop-i
+invariant-loop-i l = (k : ℕ) → k < l.i → HasSign (limits_at l.self.rows k) (number_at l.prices.values k)

@@ -1,0 +1,225 @@
+use crate::{Boxed, Entry, Limits, Prices, Side, scan};
+use std::alloc::{AllocError, Global};
+use std::process::Abort;
+use std::test::Fail;
+use wide_num::List;
+
+/// A row's limits.
+type Row = (Option<i128>, Option<i128>);
+
+/// The problem of plain arrays: the ends of the columns, the limits of the
+/// rows, entries as row, column and value, and for each column its linear and
+/// its square part.
+fn problem(
+    alloc: Global,
+    columns: &[(i64, i64)],
+    rows: &[Row],
+    entries: &[(u32, u32, i128)],
+    constant: i128,
+    objective: &[(i128, i128)],
+) -> Result<Option<Boxed>, AllocError> {
+    let mut sides = List::new(alloc);
+    for (lower, upper) in columns {
+        let side = Side {
+            lower: *lower,
+            upper: *upper,
+        };
+        sides.push(side)?;
+    }
+    let mut limits = List::new(alloc);
+    for (lower, upper) in rows {
+        let limit = Limits {
+            lower: *lower,
+            upper: *upper,
+        };
+        limits.push(limit)?;
+    }
+    let mut cells = List::new(alloc);
+    for (row, column, value) in entries {
+        let cell = Entry {
+            row: *row,
+            column: *column,
+            value: *value,
+        };
+        cells.push(cell)?;
+    }
+    let mut line = List::new(alloc);
+    let mut square = List::new(alloc);
+    for (linear, curved) in objective {
+        line.push(*linear)?;
+        square.push(*curved)?;
+    }
+    Ok(Boxed::new(sides, limits, cells, constant, line, square))
+}
+
+fn list(alloc: Global, values: &[i64]) -> Result<List<i64>, AllocError> {
+    Ok(List::from_vec(Vec::from_slice(alloc, values)?))
+}
+
+/// A scenario problem of the worked example SMALL, with this need.
+fn small(rt: &impl Abort, alloc: Global, need: i128) -> Result<Boxed, AllocError> {
+    let found = problem(
+        alloc,
+        &[(0, 10), (0, 10)],
+        &[(Some(need), None)],
+        &[(0, 0, 1), (0, 1, 1)],
+        0,
+        &[(10, 0), (30, 0)],
+    )?;
+    Ok(found.expect(rt, "a problem"))
+}
+
+#[test]
+fn scans_small(rt: HostRuntime) -> Result<(), Fail> {
+    for (need, x, y, value) in [
+        (2, 2, 0, 20),
+        (6, 6, 0, 60),
+        (-7, 0, 0, 0),
+        (15, 10, 5, 250),
+    ] {
+        let problem = small(&rt, rt.alloc(), need)?;
+        assert!(rt; problem.has_few_points());
+        let best = scan(rt.alloc(), &problem)?.expect(&rt, "a point");
+        assert_eq!(rt; best.value, value, "at {need}");
+        assert_eq!(rt; best.point.as_slice(), [x, y].as_slice(), "at {need}");
+        assert!(rt; problem.feasible(&best.point));
+        assert_eq!(rt; problem.value(&best.point), value);
+    }
+    let far = small(&rt, rt.alloc(), 21)?;
+    assert!(rt; far.has_few_points());
+    assert!(rt; scan(rt.alloc(), &far)?.is_none());
+    Ok(())
+}
+
+#[test]
+fn takes_the_first_of_equals(rt: HostRuntime) -> Result<(), Fail> {
+    let rows = [(Some(1), None)];
+    let entries = [(0, 0, 1), (0, 1, 1)];
+    let found = problem(
+        rt.alloc(),
+        &[(0, 1), (0, 1)],
+        &rows,
+        &entries,
+        0,
+        &[(1, 0), (1, 0)],
+    )?;
+    let tied = found.expect(&rt, "a problem");
+    assert!(rt; tied.has_few_points());
+    let best = scan(rt.alloc(), &tied)?.expect(&rt, "a point");
+    assert_eq!(rt; best.value, 1);
+    assert_eq!(rt; best.point.as_slice(), [0, 1].as_slice());
+    let empty = problem(rt.alloc(), &[], &[], &[], 7, &[])?.expect(&rt, "a problem");
+    assert!(rt; empty.has_few_points());
+    let only = scan(rt.alloc(), &empty)?.expect(&rt, "a point");
+    assert_eq!(rt; (only.value, only.point.len()), (7, 0));
+    Ok(())
+}
+
+#[test]
+fn tests_points(rt: HostRuntime) -> Result<(), Fail> {
+    let problem = small(&rt, rt.alloc(), 6)?;
+    let cases = [
+        ([6, 0], true),
+        ([0, 10], true),
+        ([5, 0], false),
+        ([11, 0], false),
+        ([7, -1], false),
+    ];
+    for (values, wanted) in cases {
+        let point = list(rt.alloc(), &values)?;
+        assert_eq!(rt; problem.feasible(&point), wanted, "at {values:?}");
+    }
+    let short = list(rt.alloc(), &[6])?;
+    let long = list(rt.alloc(), &[6, 0, 0])?;
+    assert!(rt; !problem.feasible(&short) && !problem.feasible(&long));
+    Ok(())
+}
+
+#[test]
+fn fixes_a_column(rt: HostRuntime) -> Result<(), Fail> {
+    let mut problem = small(&rt, rt.alloc(), 6)?;
+    assert_eq!(rt; problem.columns.len(), 2);
+    assert!(rt; !problem.fix(0, 11) && !problem.fix(0, -1));
+    assert!(rt; problem.fix(0, 3));
+    assert!(rt; problem.has_few_points());
+    let best = scan(rt.alloc(), &problem)?.expect(&rt, "a point");
+    assert_eq!(rt; best.value, 120);
+    Ok(())
+}
+
+#[test]
+fn fits_prices(rt: HostRuntime) -> Result<(), Fail> {
+    let problem = small(&rt, rt.alloc(), 6)?;
+    let cases = [
+        (1, 10, true),
+        (1, 0, true),
+        (1, -1, false),
+        (0, 10, false),
+        (1 << 125, 10, false),
+        (1, i128::MAX, false),
+        (1, i128::MIN, false),
+        (i128::MIN, 0, false),
+    ];
+    for (scale, price, wanted) in cases {
+        let values = List::from_vec(Vec::from_slice(rt.alloc(), &[price])?);
+        let prices = Prices { scale, values };
+        assert_eq!(rt; problem.fits(&prices), wanted, "at {scale}, {price}");
+    }
+    let none = List::new(rt.alloc());
+    assert!(rt;
+        !problem.fits(&Prices {
+            scale: 1,
+            values: none
+        })
+    );
+    Ok(())
+}
+
+#[test]
+fn refuses_parts(rt: HostRuntime) -> Result<(), Fail> {
+    let most = 1 << 122;
+    let cases = [
+        ((0, 9), Some(3), (0, 0, 2), 0, 0, true),
+        ((1, 0), Some(3), (0, 0, 2), 0, 0, false),
+        ((0, 9), Some(3), (0, 0, 2), 0, -1, false),
+        ((0, 9), Some(3), (1, 0, 2), 0, 0, false),
+        ((0, 9), Some(3), (0, 1, 2), 0, 0, false),
+        ((0, 9), Some(3), (0, 0, 2), most - 9, 0, true),
+        ((0, 9), Some(3), (0, 0, 2), most - 8, 0, false),
+        ((0, 9), Some(-most), (0, 0, 0), 0, 0, true),
+        ((0, 9), Some(-most), (0, 0, 1), 0, 0, false),
+    ];
+    for (side, upper, entry, constant, square, wanted) in cases {
+        let made = problem(
+            rt.alloc(),
+            &[side],
+            &[(None, upper)],
+            &[entry],
+            constant,
+            &[(1, square)],
+        )?;
+        assert_eq!(rt;
+            made.is_some(),
+            wanted,
+            "at {side:?} {upper:?} {entry:?} {constant} {square}"
+        );
+    }
+    Ok(())
+}
+
+#[test]
+fn refuses_unequal_lengths_and_pairs_twice(rt: HostRuntime) -> Result<(), Fail> {
+    let short = problem(rt.alloc(), &[(0, 9)], &[], &[], 0, &[])?;
+    assert!(rt; short.is_none());
+    let rows = [(Some(1), None)];
+    let twice = problem(
+        rt.alloc(),
+        &[(0, 9)],
+        &rows,
+        &[(0, 0, 2), (0, 0, 2)],
+        0,
+        &[(1, 0)],
+    )?;
+    assert!(rt; twice.is_none());
+    Ok(())
+}

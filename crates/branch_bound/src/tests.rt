@@ -1,0 +1,157 @@
+use crate::{SolveFault, solve};
+use boxed_problem::{Boxed, Entry, Limits, Side, scan};
+use std::alloc::{AllocError, Global};
+use std::process::Abort;
+use std::test::Fail;
+use wide_num::List;
+
+/// The limits of a row.
+type Row = (Option<i128>, Option<i128>);
+
+/// The problem of two columns with these ends and these linear and square
+/// parts, over rows that each hold the first column plus `by` times the second.
+fn problem(
+    alloc: Global,
+    columns: [(i64, i64); 2],
+    objective: [(i128, i128); 2],
+    by: i128,
+    rows: &[Row],
+) -> Result<Option<Boxed>, AllocError> {
+    let mut sides = List::new(alloc);
+    let mut line = List::new(alloc);
+    let mut square = List::new(alloc);
+    for (lower, upper) in columns {
+        sides.push(Side { lower, upper })?;
+    }
+    for (linear, curved) in objective {
+        line.push(linear)?;
+        square.push(curved)?;
+    }
+    let mut limits = List::new(alloc);
+    let mut entries = List::new(alloc);
+    for column in 0..2u32 {
+        let mut row = 0u32;
+        for _ in rows {
+            let value = if column == 0 { 1 } else { by };
+            entries.push(Entry { row, column, value })?;
+            row = row.wrapping_add(1);
+        }
+    }
+    for (lower, upper) in rows {
+        let limit = Limits {
+            lower: *lower,
+            upper: *upper,
+        };
+        limits.push(limit)?;
+    }
+    Ok(Boxed::new(sides, limits, entries, 0, line, square))
+}
+
+/// A scenario problem of the worked example SMALL, with this need.
+fn small(rt: &impl Abort, alloc: Global, need: i128) -> Result<Boxed, AllocError> {
+    let rows = [(Some(need), None)];
+    let found = problem(alloc, [(0, 10), (0, 10)], [(10, 0), (30, 0)], 1, &rows)?;
+    Ok(found.expect(rt, "a problem"))
+}
+
+#[test]
+fn counts_boxes_of_small(rt: HostRuntime) -> Result<(), Fail> {
+    for (need, x, value, few, boxes) in [(2, 2, 20, 30, 31), (6, 6, 60, 70, 71)] {
+        let problem = small(&rt, rt.alloc(), need)?;
+        let best = solve(rt.alloc(), &problem, boxes)?;
+        assert_eq!(rt; best.value, value);
+        assert_eq!(rt; best.point.as_slice(), [x, 0].as_slice());
+        let fault = solve(rt.alloc(), &problem, few).err();
+        assert_eq!(rt; fault, Some(SolveFault::Spent { opened: few }));
+        let none = solve(rt.alloc(), &problem, 0).err();
+        assert_eq!(rt; none, Some(SolveFault::Spent { opened: 0 }));
+    }
+    let far = small(&rt, rt.alloc(), 21)?;
+    assert_eq!(rt;
+        solve(rt.alloc(), &far, 1).err(),
+        Some(SolveFault::Infeasible)
+    );
+    Ok(())
+}
+
+#[test]
+fn takes_the_first_of_equals(rt: HostRuntime) -> Result<(), Fail> {
+    let rows = [(Some(1), None)];
+    let found = problem(rt.alloc(), [(0, 1), (0, 1)], [(1, 0), (1, 0)], 1, &rows)?;
+    let tied = found.expect(&rt, "a problem");
+    let best = solve(rt.alloc(), &tied, 100)?;
+    assert_eq!(rt; best.value, 1);
+    assert_eq!(rt; best.point.as_slice(), [0, 1].as_slice());
+    Ok(())
+}
+
+/// Whether the search and the list of all points give the same answer.
+fn agrees(alloc: Global, problem: &Boxed) -> Result<bool, AllocError> {
+    if !problem.has_few_points() {
+        return Ok(false);
+    }
+    let listed = scan(alloc, problem)?;
+    match solve(alloc, problem, 10000) {
+        Ok(best) => Ok(listed == Some(best)),
+        Err(SolveFault::Infeasible) => Ok(listed.is_none()),
+        Err(_) => Ok(false),
+    }
+}
+
+#[test]
+fn agrees_with_the_list_of_points(rt: HostRuntime) -> Result<(), Fail> {
+    let boxes = [[(0, 3), (-2, 2)], [(-3, -1), (0, 0)], [(5, 5), (-4, 4)]];
+    let objectives = [
+        [(1, 0), (1, 0)],
+        [(-3, 2), (4, 0)],
+        [(0, 1), (-5, 3)],
+        [(0, 0), (-1, 0)],
+    ];
+    let limits = [
+        [(None, None), (None, None)],
+        [(Some(1), None), (None, Some(3))],
+        [(Some(-1), Some(1)), (Some(-2), None)],
+        [(Some(2), Some(2)), (None, None)],
+        [(Some(90), None), (None, None)],
+    ];
+    for columns in boxes {
+        for objective in objectives {
+            for rows in limits {
+                let found = problem(rt.alloc(), columns, objective, -2, &rows)?;
+                let problem = found.expect(&rt, "a problem");
+                assert!(rt;
+                    agrees(rt.alloc(), &problem)?,
+                    "{columns:?} {objective:?} {rows:?}"
+                );
+            }
+        }
+    }
+    Ok(())
+}
+
+#[test]
+fn needs_no_columns_and_no_rows(rt: HostRuntime) -> Result<(), Fail> {
+    let alloc = rt.alloc();
+    for (lower, feasible) in [(0, true), (1, false)] {
+        let mut rows = List::new(alloc);
+        let limit = Limits {
+            lower: Some(lower),
+            upper: None,
+        };
+        rows.push(limit)?;
+        let found = Boxed::new(
+            List::new(alloc),
+            rows,
+            List::new(alloc),
+            7,
+            List::new(alloc),
+            List::new(alloc),
+        );
+        let problem = found.expect(&rt, "a problem");
+        assert_eq!(rt; solve(alloc, &problem, 1).is_ok(), feasible);
+        assert!(rt; agrees(alloc, &problem)?);
+    }
+    let free = problem(alloc, [(-2, 2), (1, 4)], [(-1, 1), (2, 0)], 1, &[])?;
+    assert!(rt; agrees(alloc, &free.expect(&rt, "a problem"))?);
+    Ok(())
+}

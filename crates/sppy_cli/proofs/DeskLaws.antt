@@ -1,0 +1,82 @@
+use Rattle.std.proofs.Common.{◌≡◌, ℤ, List, ℕ, [], ◌++◌, Option, Some, None, Ok, Err, refl, sym, subst}
+use Rattle.std.specs.Prelude.{IfSome}
+use Rattle.std.specs.List.{concat}
+use Rattle.std.specs.Option.{option_map_or}
+use Rattle.io_edge.proofs.Writing.{appended-nothing, appended_twice}
+use Rattle.io_edge.specs.Shelves.{FileTable}
+use Rattle.io_edge.specs.Sinks.{appended}
+use Rattle.sppy_cli.specs.Answers.{LoadsRun, PutsBound, WritesWait, status_of_failure, status_of_put}
+use Rattle.sppy_cli.specs.Desk.{Answers, Appends, GainsFront, IsRunIn, IsWaitText, Writes, heading_text, names_of, with_names}
+use Rattle.sppy_cli.specs.Scenarios.{IsWaitAndSee}
+use Rattle.sppy_cli.specs.Words.{Request}
+use Rattle.sppy_cli.specs.declared.puts.PutFailure.{PutFailure}
+use Rattle.sppy_cli.specs.declared.puts.PutFailure.TheVariants as put
+use Rattle.sppy_cli.specs.declared.run.Run.{Run}
+use Rattle.sppy_cli.specs.declared.run_files.RunFailure.{RunFailure}
+use Rattle.sppy_cli.specs.declared.run_files.RunFailure.TheVariants as failure
+use Rattle.sppy_cli.specs.declared.status.Status.{Status}
+use Rattle.sppy_cli.specs.declared.status.Status.TheVariants as status
+
+-- the heading and the lines of the bound are the whole text
+pub wait_written : (run : Run) (bound : ℤ) (old mid new : Option (List ℕ)) → mid ≡ appended old (heading_text run) → IsWaitAndSee run bound → PutsBound run bound mid new →
+    (text : List ℕ) × IsWaitText run text × (new ≡ appended old text)
+wait_written run bound old mid new e b (lines, h, f) = (
+  heading_text run ++ concat lines,
+  record { bound = bound; lines = lines; bound_is = b; lines_are = h; text_is = refl },
+  appended_twice old mid new (heading_text run) (concat lines) e f,
+)
+
+appends_after : (old mid new : Option (List ℕ)) (front : List ℕ) → mid ≡ appended old front → Appends mid new → Appends old new
+appends_after old mid new front e (text, f) = (front ++ text, appended_twice old mid new front text e f)
+
+cut_by : (run : Run) (f : PutFailure) (old new : Option (List ℕ)) → Appends old new → WritesWait run old new (status_of_put f)
+cut_by run (put.Failed faults) old new a = a
+cut_by run put.Memory old new a = a
+
+-- the text is cut where a put fails behind the heading
+pub wait_cut : (run : Run) (f : PutFailure) (s : Status) (old mid new : Option (List ℕ)) (front : List ℕ) → mid ≡ appended old front → Appends mid new → s ≡ status_of_put f → WritesWait run old new s
+wait_cut run f s old mid new front e a is = subst (λ t. WritesWait run old new t) (sym is) (cut_by run f old new (appends_after old mid new front e a))
+
+with_run : (table : FileTable) (request : Request) (run : Run) (old new : Option (List ℕ)) (s : Status) → IsRunIn table request run → WritesWait run old new s → Answers table request old new s
+with_run table request run old new status.Done is (text, wait, e) = (run, text, is, wait, e)
+with_run table request run old new (status.Infeasible scenario) is (first, e) = (run, is, first, e)
+with_run table request run old new (status.WriteFault faults) is a = (run, is, a)
+with_run table request run old new status.Memory is a = a
+with_run table request run old new status.Words is a = absurd a
+with_run table request run old new (status.Input fault) is a = absurd a
+with_run table request run old new (status.ReadFault faults) is a = absurd a
+
+-- the answers of a run that was loaded
+pub answers_from_run : (files : Option FileTable) (asked : Option Request) (request : Request) (run : Run) (old new : Option (List ℕ)) (s : Status) → asked ≡ Some request → LoadsRun files request (Ok run) → WritesWait run old new s →
+    IfSome files (λ table. IfSome asked (λ request. Answers table request old new s))
+answers_from_run None asked request run old new s e is w = tt
+answers_from_run (Some table) asked request run old new s e is w =
+    subst (λ (o : Option Request). IfSome o (λ request. Answers table request old new s)) (sym e) (with_run table request run old new s is w)
+
+appends_nothing : (old : Option (List ℕ)) → Appends old old
+appends_nothing old = ([], sym (appended-nothing old))
+
+without_run : (table : FileTable) (request : Request) (f : RunFailure) (old : Option (List ℕ)) → LoadsRun (Some table) request (Err f) → Answers table request old old (status_of_failure f)
+without_run table request (failure.Input fault) old h = (h, refl)
+without_run table request (failure.Failed faults) old h = refl
+without_run table request failure.Memory old h = appends_nothing old
+
+-- the answers where there is no run
+pub answers_from_failure : (files : Option FileTable) (asked : Option Request) (request : Request) (f : RunFailure) (old : Option (List ℕ)) (s : Status) → asked ≡ Some request → LoadsRun files request (Err f) → s ≡ status_of_failure f →
+    IfSome files (λ table. IfSome asked (λ request. Answers table request old old s))
+answers_from_failure None asked request f old s e h is = tt
+answers_from_failure (Some table) asked request f old s e h is =
+    subst (λ (o : Option Request). IfSome o (λ request. Answers table request old old s)) (sym e) (subst (λ t. Answers table request old old t) (sym is) (without_run table request f old h))
+
+nothing_by : (f : RunFailure) (old : Option (List ℕ)) → Writes old old (status_of_failure f)
+nothing_by (failure.Input fault) old = refl
+nothing_by (failure.Failed faults) old = refl
+nothing_by failure.Memory old = appends_nothing old
+
+-- nothing is written where there is no run
+pub writes_nothing : (f : RunFailure) (old : Option (List ℕ)) (s : Status) → s ≡ status_of_failure f → Writes old old s
+writes_nothing f old s is = subst (λ t. Writes old old t) (sym is) (nothing_by f old)
+
+-- all names of the command were loaded
+pub names_from_run : (asked : Option Request) (request : Request) (old new : Option (List (List ℕ))) → asked ≡ Some request → new ≡ with_names old (names_of request) → GainsFront old new (option_map_or names_of asked [])
+names_from_run asked request old new e f = subst (λ (o : Option Request). GainsFront old new (option_map_or names_of o [])) (sym e) (3, f)
