@@ -1,13 +1,13 @@
-use Rattle.std.proofs.Common.{arith, ◌≡◌, ◌≤◌, ◌-◌, ◌*◌, ◌^◌, max, ℕ, zero, suc, Bool, true, false, List, [], ◌∷◌, Option, Some, None, All, length, fold, unwrap_or, refl, sym, subst, ◌==◌, ◌&&◌, nat_le, if◌then◌else◌, option_and_then, codes}
+use Rattle.std.proofs.Common.{arith, ◌≡◌, ◌≤◌, ◌-◌, ◌*◌, ◌^◌, max, ℕ, zero, suc, Bool, true, false, List, [], ◌∷◌, Some, None, All, length, fold, unwrap_or, refl, sym, subst, ◌==◌, ◌&&◌, nat_le, if◌then◌else◌, codes}
 use Rattle.std.specs.List.{list_all}
 use Rattle.std.proofs.lemmas.Bool.{and_parts, leb-true}
 use Rattle.std.proofs.lemmas.List.Elements.{All-append, All-nil, All-cons, All-head, All-tail}
 use Rattle.line_core.specs.Lines.{field_text}
 use Rattle.line_core.specs.declared.line_list.Line.{Line}
-use Rattle.sppy_cli.specs.Form.{body_of}
+use Rattle.sppy_cli.specs.Form.{body_of, is_formed}
 use Rattle.sppy_cli.specs.Program.{common_places, weight_of}
-use Rattle.sppy_cli.specs.Sections.{all_true, section}
-use Rattle.sppy_cli.specs.StochFile.{AreBranches, are_tenths, begins_scenario, branch_list, branch_of, branches_in, is_small_branch, is_tenth, probability_of, small_branches, stoch_fits}
+use Rattle.sppy_cli.specs.Sections.{section}
+use Rattle.sppy_cli.specs.StochFile.{AreBranches, are_small_branches, are_tenths, begins_scenario, branch_list, branch_of, branches_in, is_small_branch, is_tenth, probability_of, said_branches, stoch_fits}
 use Rattle.sppy_cli.specs.declared.core_file.Core.{Core}
 use Rattle.sppy_cli.specs.declared.stoch_file.Branch.{Branch}
 use Rattle.sppy_cli.specs.declared.stoch_file.Probability.{Probability}
@@ -73,21 +73,18 @@ pub record SmallBranches (branches : List Branch) : Type 0 where
   pub sides : list_all is_small_branch branches ≡ true
   pub simple : All IsSimpleBranch branches
 
-small_by_tests : (found branches : List Branch) → small_branches found ≡ Some branches → All IsSimpleBranch found → SmallBranches branches
-small_by_tests found branches e simple =
-    let both = given_test (all_true (nat_le 1 (length found) ∷ nat_le (length found) 64 ∷ list_all is_small_branch found ∷ [])) found branches e in
-    let some = first_test _ _ both.0 in
-    let few = first_test _ _ some.1 in
-    let sides = first_test _ _ few.1 in
-    subst SmallBranches both.1 (record { some = leb-true 1 (length found) some.0; few = leb-true (length found) 64 few.0; sides = sides.0; simple = simple })
-
-body_branches : (core : Core) (text : List ℕ) (body : Option (List Line)) (branches : List Branch) → option_and_then (λ body. small_branches (branches_in core text (section text (codes "SCENARIOS") body))) body ≡ Some branches → SmallBranches branches
-body_branches core text None branches e = absurd cc
-body_branches core text (Some body) branches e =
-    small_by_tests (branches_in core text (section text (codes "SCENARIOS") body)) branches e (branches_simple core text (section text (codes "SCENARIOS") body))
+small_by_tests : (branches : List Branch) → are_small_branches branches ≡ true → All IsSimpleBranch branches → SmallBranches branches
+small_by_tests branches e simple =
+    let some = first_test (nat_le 1 (length branches)) _ e in
+    let few = first_test (nat_le (length branches) 64) _ some.1 in
+    let sides = first_test (list_all is_small_branch branches) _ few.1 in
+    record { some = leb-true 1 (length branches) some.0; few = leb-true (length branches) 64 few.0; sides = sides.0; simple = simple }
 
 pub small_branches_are : (core : Core) (periods : Periods) (branches : List Branch) → AreBranches core periods branches → SmallBranches branches
-small_branches_are core periods branches are = body_branches core are.0 (body_of (stoch_fits core periods) are.0) branches are.1
+small_branches_are core periods branches (text, e) =
+    let given = given_test (is_formed (stoch_fits core periods) text && are_small_branches (said_branches core text)) (said_branches core text) branches e in
+    let small = (and_parts (is_formed (stoch_fits core periods) text) (are_small_branches (said_branches core text)) given.0).1 in
+    subst SmallBranches given.1 (small_by_tests (said_branches core text) small (branches_simple core text (section text (codes "SCENARIOS") (body_of text))))
 
 fold_within : (branches : List Branch) (most : ℕ) → most ≤ 1 → All IsSimpleBranch branches → fold (λ most (branch : Branch). max most branch.probability.places) most branches ≤ 1
 fold_within [] most h simple = h

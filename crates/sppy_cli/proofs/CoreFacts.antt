@@ -1,14 +1,14 @@
-use Rattle.std.proofs.Common.{arith, ◌≡◌, ◌≤◌, ℕ, Bool, true, false, List, Option, Some, None, length, refl, subst, if◌then◌else◌, option_and_then}
+use Rattle.std.proofs.Common.{arith, ◌≡◌, ◌≤◌, ℕ, Bool, true, false, List, Some, None, length, refl, subst, if◌then◌else◌, ◌&&◌}
 use Rattle.std.specs.List.{list_all}
-use Rattle.std.proofs.lemmas.Bool.{leb-true}
+use Rattle.std.proofs.lemmas.Bool.{and_parts, leb-true}
 use Rattle.std.proofs.lemmas.Bool.Decides.{nat_tests}
 use Rattle.std.proofs.lemmas.List.{length-map}
 use Rattle.boxed_problem.specs.declared.parts.Entry.{Entry}
 use Rattle.line_core.specs.declared.line_list.Line.{Line}
 use Rattle.sppy_cli.specs.CoreData.{objective_of, row_names_of, column_names_of, upper_of}
-use Rattle.sppy_cli.specs.CoreFile.{IsCore, box_count, core_in, cost_of, is_few, is_moderate, is_narrow, is_small, limit_of, small_core}
+use Rattle.sppy_cli.specs.CoreFile.{IsCore, box_count, core_in, cost_of, is_few, is_moderate, is_narrow, is_small, limit_of, said_core}
 use Rattle.sppy_cli.specs.CoreForm.{core_fits}
-use Rattle.sppy_cli.specs.Form.{body_of}
+use Rattle.sppy_cli.specs.Form.{body_of, is_formed}
 use Rattle.sppy_cli.specs.declared.core_file.Core.{Core}
 
 -- a value that comes only where a test holds
@@ -31,14 +31,11 @@ pub record CoreSaid (core : Core) : Type 0 where
   pub small : is_small core ≡ true
   pub said : core_in text body ≡ core
 
-body_said : (text : List ℕ) (found : Option (List Line)) (core : Core) → option_and_then (λ body. small_core (core_in text body)) found ≡ Some core → CoreSaid core
-body_said text None core e = absurd cc
-body_said text (Some body) core e =
-    let both = given_test (is_small (core_in text body)) (core_in text body) core e in
-    record { text = text; body = body; small = subst (λ c. is_small c ≡ true) both.1 both.0; said = both.1 }
-
 pub core_said : (core : Core) → IsCore core → CoreSaid core
-core_said core is = body_said is.0 (body_of core_fits is.0) core is.1
+core_said core (text, e) =
+    let given = given_test (is_formed core_fits text && is_small (said_core text)) (said_core text) core e in
+    let small = (and_parts (is_formed core_fits text) (is_small (said_core text)) given.0).1 in
+    record { text = text; body = body_of text; small = subst (λ c. is_small c ≡ true) given.1 small; said = given.1 }
 
 -- what is small in a core
 pub record SmallCore (core : Core) : Type 0 where

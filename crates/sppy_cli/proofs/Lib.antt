@@ -1,5 +1,6 @@
 pub mod Digits
 pub mod Fit
+pub mod Forms
 pub mod Gather
 pub mod Counts
 pub mod Latest
@@ -15,4 +16,6 @@ pub mod Costs
 pub mod SmallProblems
 pub mod SmallValues
 pub mod Sums
+pub mod Loading
 pub mod DeskLaws
+pub mod Completing

@@ -1,10 +1,10 @@
-use Rattle.std.specs.Prelude.{◌≡◌, ℕ, zero, suc, ℤ, pos, negsuc, List, [], ◌∷◌, ◌++◌, ◌*◌, ◌+◌, Bool, Option, Some, None, ◌&&◌, length, map, nat_le, nat_lt, unsigned_abs, unwrap_or, if◌then◌else◌, slice_index_or, option_and_then}
+use Rattle.std.specs.Prelude.{◌≡◌, ℕ, zero, suc, ℤ, pos, negsuc, List, [], ◌∷◌, ◌++◌, ◌*◌, ◌+◌, Bool, Option, Some, None, ◌&&◌, length, map, nat_le, nat_lt, unsigned_abs, unwrap_or, if◌then◌else◌, slice_index_or}
 use Rattle.std.specs.List.{list_all}
 use Rattle.boxed_problem.specs.declared.parts.Entry.{Entry}
 use Rattle.line_core.specs.declared.line_list.Line.{Line}
 use Rattle.sppy_cli.specs.CoreData.{objective_of, row_names_of, column_names_of, entry_of, right_of, upper_of}
 use Rattle.sppy_cli.specs.CoreForm.{core_fits}
-use Rattle.sppy_cli.specs.Form.{body_of}
+use Rattle.sppy_cli.specs.Form.{body_of, is_formed}
 use Rattle.sppy_cli.specs.Sections.{all_true}
 use Rattle.sppy_cli.specs.declared.core_file.Core.{Core}
 
@@ -85,12 +85,17 @@ is_small core = all_true (
     ∷ list_all (λ e. is_moderate e.value) core.entries
     ∷ [])
 
-abbrev pub small_core : Core → Option Core
-small_core core = if is_small core then Some core else None
+-- what a core file says, whatever its form
+abbrev pub said_core : List ℕ → Core
+said_core text = core_in text (body_of text)
+
+-- a core file is of the small form: its lines are in their places, and what they say is small
+abbrev pub is_small_core_file : List ℕ → Bool
+is_small_core_file text = is_formed core_fits text && is_small (said_core text)
 
 -- what a core file of the small form says; none where the file isn't of that form
 abbrev pub core_of : List ℕ → Option Core
-core_of text = option_and_then (λ body. small_core (core_in text body)) (body_of core_fits text)
+core_of text = if is_small_core_file text then Some (said_core text) else None
 
 -- a core that some core file of the small form says
 abbrev pub IsCore : Core → Type 0

@@ -18,14 +18,26 @@ fit_to fits lines (suc n) = fit_to fits lines n && fits (take n lines) (slice_in
 abbrev pub end_place : List ℕ → List Line → ℕ
 end_place text lines = position_or_len (is_header text (codes "ENDATA")) lines
 
--- all lines up to the end of the file are in their places, and the end is there
-abbrev pub is_formed : (List Line → Line → Bool) → List ℕ → List Line → Bool
-is_formed fits text lines = nat_lt (end_place text lines) (length lines) && fit_to fits lines (end_place text lines + 1)
+-- the lines before the end of a file; none of them where the text has a fault
+abbrev pub body_in : List ℕ → Result (List Line) LineFault → List Line
+body_in text (Err fault) = []
+body_in text (Ok lines) = take (end_place text lines) lines
 
--- the lines before the end of the file; none where a line isn't in its place or the text has a fault
-abbrev pub body_in : (List ℕ → List Line → Line → Bool) → List ℕ → Result (List Line) LineFault → Option (List Line)
-body_in fits text (Err fault) = None
-body_in fits text (Ok lines) = if is_formed (fits text) text lines then Some (take (end_place text lines) lines) else None
+abbrev pub body_of : List ℕ → List Line
+body_of text = body_in text (lines_of text)
 
-abbrev pub body_of : (List ℕ → List Line → Line → Bool) → List ℕ → Option (List Line)
-body_of fits text = body_in fits text (lines_of text)
+-- the text has no fault, and its lines up to the end of the file, which is there, are in their places
+abbrev pub is_formed_in : (List ℕ → List Line → Line → Bool) → List ℕ → Result (List Line) LineFault → Bool
+is_formed_in fits text (Err fault) = false
+is_formed_in fits text (Ok lines) = nat_lt (end_place text lines) (length lines) && fit_to (fits text) lines (end_place text lines + 1)
+
+abbrev pub is_formed : (List ℕ → List Line → Line → Bool) → List ℕ → Bool
+is_formed fits text = is_formed_in fits text (lines_of text)
+
+-- the lines before the end of a file, where it is formed
+abbrev pub formed_body : (List ℕ → List Line → Line → Bool) → List ℕ → Option (List Line)
+formed_body fits text = if is_formed fits text then Some (body_of text) else None
+
+-- a datum, where it passes a test
+abbrev pub passing : {X : Type 0} → (X → Bool) → X → Option X
+passing test x = if test x then Some x else None

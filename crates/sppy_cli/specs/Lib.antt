@@ -18,3 +18,4 @@ pub mod Runs
 pub mod Desk
 pub mod Loads
 pub mod Answers
+pub mod Complete

@@ -1,10 +1,10 @@
-use Rattle.std.specs.Prelude.{◌≡◌, ℕ, pos, List, [], ◌∷◌, ◌++◌, ◌==◌, ◌-◌, Bool, Option, Some, None, ◌&&◌, ◌||◌, length, map, nat_le, nat_lt, not, reverse, is_some, unwrap_or, option_and_then, if◌then◌else◌, codes}
+use Rattle.std.specs.Prelude.{◌≡◌, ℕ, pos, List, [], ◌∷◌, ◌++◌, ◌==◌, ◌-◌, Bool, Option, Some, None, ◌&&◌, ◌||◌, length, map, nat_le, nat_lt, not, reverse, is_some, unwrap_or, if◌then◌else◌, codes}
 use Rattle.std.specs.List.{list_all, list_any, filter, before_first}
 use Rattle.std.specs.Str.{bytes_eq}
 use Rattle.line_core.specs.Lines.{field_text}
 use Rattle.line_core.specs.declared.line_list.Line.{Line}
 use Rattle.sppy_cli.specs.CoreFile.{is_moderate}
-use Rattle.sppy_cli.specs.Form.{body_of}
+use Rattle.sppy_cli.specs.Form.{body_of, is_formed}
 use Rattle.sppy_cli.specs.Numerals.{whole_of}
 use Rattle.sppy_cli.specs.Sections.{all_true, section, section_name, has_word, is_named}
 use Rattle.sppy_cli.specs.TimeFile.{number_of}
@@ -124,14 +124,25 @@ branches_in core text (line ∷ lines) = branch_list core text line lines ++ bra
 abbrev pub is_small_branch : Branch → Bool
 is_small_branch branch = list_all (λ side. is_moderate side.value) branch.sides
 
--- one to 64 scenarios
-abbrev pub small_branches : List Branch → Option (List Branch)
-small_branches branches = if all_true (nat_le 1 (length branches) ∷ nat_le (length branches) 64 ∷ list_all is_small_branch branches ∷ []) then Some branches else None
+-- one to 64 scenarios, with numbers of at most six digits
+abbrev pub are_small_branches : List Branch → Bool
+are_small_branches branches = all_true (nat_le 1 (length branches) ∷ nat_le (length branches) 64 ∷ list_all is_small_branch branches ∷ [])
+
+-- the scenarios of a stoch file's lines
+abbrev pub scenarios_in : Core → List ℕ → List Line → List Branch
+scenarios_in core text body = branches_in core text (section text (codes "SCENARIOS") body)
+
+-- what a stoch file says for a core, whatever its form
+abbrev pub said_branches : Core → List ℕ → List Branch
+said_branches core text = scenarios_in core text (body_of text)
+
+-- a stoch file is of the small form for a core and its periods: its lines are in their places, and what they say is small
+abbrev pub is_small_stoch_file : Core → Periods → List ℕ → Bool
+is_small_stoch_file core periods text = is_formed (stoch_fits core periods) text && are_small_branches (said_branches core text)
 
 -- what a stoch file of the small form says for a core and its periods; none where the file isn't of that form
 abbrev pub branches_of : Core → Periods → List ℕ → Option (List Branch)
-branches_of core periods text =
-    option_and_then (λ body. small_branches (branches_in core text (section text (codes "SCENARIOS") body))) (body_of (stoch_fits core periods) text)
+branches_of core periods text = if is_small_stoch_file core periods text then Some (said_branches core text) else None
 
 -- scenarios that some stoch file of the small form says for a core and its periods
 abbrev pub AreBranches : Core → Periods → List Branch → Type 0

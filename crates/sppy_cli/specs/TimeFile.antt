@@ -1,4 +1,4 @@
-use Rattle.std.specs.Prelude.{◌≡◌, ℕ, List, [], ◌∷◌, ◌==◌, ◌+◌, ◌-◌, Bool, Option, Some, None, ◌&&◌, ◌||◌, length, nat_le, nat_lt, not, slice_get, if◌then◌else◌, slice_index_or, option_and_then, codes}
+use Rattle.std.specs.Prelude.{◌≡◌, ℕ, List, [], ◌∷◌, ◌==◌, ◌+◌, ◌-◌, Bool, Option, Some, None, ◌&&◌, ◌||◌, length, nat_le, nat_lt, not, slice_get, if◌then◌else◌, slice_index_or, codes}
 use Rattle.std.specs.List.{list_all, list_any, position_or_len}
 use Rattle.std.specs.Option.{option_map_or}
 use Rattle.std.specs.Str.{bytes_eq}
@@ -6,7 +6,7 @@ use Rattle.boxed_problem.specs.declared.parts.Entry.{Entry}
 use Rattle.line_core.specs.Fields.{span_text}
 use Rattle.line_core.specs.Lines.{field_text}
 use Rattle.line_core.specs.declared.line_list.Line.{Line}
-use Rattle.sppy_cli.specs.Form.{body_of, no_line}
+use Rattle.sppy_cli.specs.Form.{body_of, is_formed, no_line}
 use Rattle.sppy_cli.specs.Sections.{all_true, section, section_name, has_word, is_named}
 use Rattle.sppy_cli.specs.declared.core_file.Core.{Core}
 use Rattle.sppy_cli.specs.declared.time_file.Periods.{Periods}
@@ -83,12 +83,20 @@ periods_in core text body = record {
 abbrev pub is_in_time : Periods → Entry → Bool
 is_in_time periods entry = nat_lt entry.column periods.column || nat_le periods.row entry.row
 
-abbrev pub small_periods : Core → Periods → Option Periods
-small_periods core periods = if list_all (is_in_time periods) core.entries then Some periods else None
+abbrev pub are_small_periods : Core → Periods → Bool
+are_small_periods core periods = list_all (is_in_time periods) core.entries
+
+-- what a time file says for a core, whatever its form
+abbrev pub said_periods : Core → List ℕ → Periods
+said_periods core text = periods_in core text (body_of text)
+
+-- a time file is of the small form for a core: its lines are in their places, and the core's entries fit its periods
+abbrev pub is_small_time_file : Core → List ℕ → Bool
+is_small_time_file core text = is_formed (time_fits core) text && are_small_periods core (said_periods core text)
 
 -- what a time file of the small form says for a core; none where the file isn't of that form
 abbrev pub periods_of : Core → List ℕ → Option Periods
-periods_of core text = option_and_then (λ body. small_periods core (periods_in core text body)) (body_of (time_fits core) text)
+periods_of core text = if is_small_time_file core text then Some (said_periods core text) else None
 
 -- periods that some time file of the small form says for a core
 abbrev pub ArePeriods : Core → Periods → Type 0

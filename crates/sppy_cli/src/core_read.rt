@@ -2,7 +2,8 @@ ghost use Rattle.std.specs.Prelude.{◌≡◌, ◌∷◌, ◌++◌, ◌<◌, ◌
 ghost use Rattle.std.specs.List.{list_all, list_any};
 ghost use Rattle.std.specs.Str.{bytes_eq};
 ghost use Rattle.sppy_cli.specs.CoreData.{column_names_of, distinct, objective_of, row_names_of, upper_of, with_name};
-ghost use Rattle.sppy_cli.specs.CoreFile.{box_count, column_entries, core_in, core_of, cost_of, count_to, entries_of, entry_list, is_few, is_narrow, is_small, limit_of, small_core};
+ghost use Rattle.sppy_cli.specs.CoreFile.{box_count, column_entries, core_in, core_of, cost_of, count_to, entries_of, entry_list, is_few, is_narrow, is_small, limit_of};
+ghost use Rattle.sppy_cli.specs.Form.{passing};
 ghost use Rattle.sppy_cli.specs.Refusals.{ReadAnswers};
 
 use crate::core_data::{entry_of, right_of, upper_of};
@@ -217,7 +218,7 @@ fn core_with(
 
 // A core within the limits, from the lines before its end.
 fn small_core(alloc: Global, bytes: &[u8], body: &[Line]) -> Result<Core, Refusal>
-    ensures { ReadAnswers result (small_core (core_in bytes.now body.now)) }
+    ensures { ReadAnswers result (passing is_small (core_in bytes.now body.now)) }
 {
     let Ok(rows) = row_names(alloc, bytes, body) else {
         return Err(Refusal::Memory);

@@ -1,5 +1,6 @@
 ghost use Rattle.std.specs.Prelude.{◌≡◌, ◌↔◌, None, IfSome, map, string_bytes};
 ghost use Rattle.sppy_cli.specs.Answers.{WritesWait, names_asked};
+ghost use Rattle.sppy_cli.specs.Complete.{IsComplete, Refuses};
 ghost use Rattle.sppy_cli.specs.Desk.{Answers, CountsReads, CountsWrites, GainsFront, Writes};
 ghost use Rattle.sppy_cli.specs.Words.{command_of};
 
@@ -49,6 +50,10 @@ pub fn desk<S: Shelf, K: Sink>(
     // where the files are told: why the status comes, and what was written
     ensures answers { IfSome (S.files shelf.old) (λ table. IfSome (command_of (map string_bytes words.now)) (λ request. Answers table request (K.written out.old) (K.written out.new) result)) }
     ensures written { Writes (K.written out.old) (K.written out.new) result }
+
+    // the first wrong file is the fault that is answered; where none is wrong and no fault is counted, the run ends by its points
+    ensures refuses { IfSome (S.files shelf.old) (λ table. IfSome (command_of (map string_bytes words.now)) (λ request. Refuses table request result)) }
+    ensures complete { IfSome (S.files shelf.old) (λ table. IfSome (command_of (map string_bytes words.now)) (λ request. IsComplete table request (S.count shelf.old) (S.count shelf.new) (K.count out.old) (K.count out.new) result)) }
 
     // a fault is answered only where it was counted, and none is passed over
     ensures reads { CountsReads (S.count shelf.old) (S.count shelf.new) result }

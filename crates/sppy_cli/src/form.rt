@@ -1,6 +1,6 @@
 ghost use Rattle.std.specs.Prelude.{◌≡◌, Bool, ℕ, List, Option, take, ◌≤◌, length};
 ghost use Rattle.line_core.specs.declared.line_list.Line.{Line};
-ghost use Rattle.sppy_cli.specs.Form.{body_of, end_place, fit_to, is_formed};
+ghost use Rattle.sppy_cli.specs.Form.{body_of, end_place, fit_to, formed_body, is_formed, is_formed_in};
 ghost use Rattle.sppy_cli.specs.Refusals.{ReadAnswers};
 
 use crate::lookup::header_place;
@@ -55,7 +55,7 @@ fn end_place(bytes: &[u8], lines: &[Line]) -> usize
 /// The lines before the end of the file. `Unbuilt` comes exactly where a line
 /// up to the end isn't in its place, or the text has a fault.
 pub fn read_body<F: Form>(alloc: Global, form: &F, bytes: &[u8]) -> Result<List<Line>, Refusal>
-    ensures { ReadAnswers result (body_of (F.fits form.now) bytes.now) }
+    ensures { ReadAnswers result (formed_body (F.fits form.now) bytes.now) }
 {
     let found = match lines(alloc, bytes) {
         Ok(found) => found,

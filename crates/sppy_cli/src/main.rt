@@ -26,6 +26,8 @@ mod stoch_read;
 #[cfg(test)]
 mod tests_desk;
 #[cfg(test)]
+mod tests_read;
+#[cfg(test)]
 mod tests_text;
 mod texts;
 mod time_file;

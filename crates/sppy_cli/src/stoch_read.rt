@@ -1,9 +1,10 @@
 ghost use Rattle.std.specs.Prelude.{◌≡◌, ◌≤◌, IfOk, OnOk, codes, length, map, ◌++◌, ◌∷◌, []};
 ghost use Rattle.std.specs.List.{before_first, list_all, position_or_len};
 ghost use Rattle.sppy_cli.specs.CoreFile.{IsCore};
+ghost use Rattle.sppy_cli.specs.Form.{passing};
 ghost use Rattle.sppy_cli.specs.Refusals.{ReadAnswers};
 ghost use Rattle.sppy_cli.specs.Sections.{section};
-ghost use Rattle.sppy_cli.specs.StochFile.{begins_scenario, branch_list, branch_of, branches_in, branches_of, is_small_branch, side_of, small_branches};
+ghost use Rattle.sppy_cli.specs.StochFile.{are_small_branches, begins_scenario, branch_list, branch_of, branches_in, branches_of, is_small_branch, scenarios_in, side_of};
 
 use crate::core_file::Core;
 use crate::core_limits::is_moderate;
@@ -136,7 +137,7 @@ fn is_small_branch(branch: &Branch) -> bool
         .all(|side| is_moderate(side.value))
 }
 
-fn are_small_branches(branches: &List<Branch>) -> bool
+fn have_small_values(branches: &List<Branch>) -> bool
     ensures { result ≡ list_all is_small_branch branches.now }
 {
     branches
@@ -145,20 +146,17 @@ fn are_small_branches(branches: &List<Branch>) -> bool
         .all(|branch| is_small_branch(branch))
 }
 
-// One to 64 scenarios with numbers of at most six digits.
-fn small_branches(branches: List<Branch>) -> Result<List<Branch>, Refusal>
-    ensures { ReadAnswers result (small_branches branches) }
+// Whether these are one to 64 scenarios with numbers of at most six digits.
+fn are_small_branches(branches: &List<Branch>) -> bool
+    ensures { result ≡ are_small_branches branches.now }
 {
     if branches.len() < 1 {
-        return Err(Refusal::Unbuilt);
+        return false;
     }
     if branches.len() > 64 {
-        return Err(Refusal::Unbuilt);
+        return false;
     }
-    if !are_small_branches(&branches) {
-        return Err(Refusal::Unbuilt);
-    }
-    Ok(branches)
+    have_small_values(branches)
 }
 
 // The scenarios of the small form, from the lines before the end.
@@ -169,12 +167,15 @@ fn small_stoch(
     body: &[Line],
 ) -> Result<List<Branch>, Refusal>
     requires { length core.now.rows ≤ 8 }
-    ensures { ReadAnswers result (small_branches (branches_in core.now bytes.now (section bytes.now (codes "SCENARIOS") body.now))) }
+    ensures { ReadAnswers result (passing are_small_branches (scenarios_in core.now bytes.now body.now)) }
 {
     let Ok(branches) = branches_in(alloc, core, bytes, section(bytes, b"SCENARIOS", body)) else {
         return Err(Refusal::Memory);
     };
-    small_branches(branches)
+    if !are_small_branches(&branches) {
+        return Err(Refusal::Unbuilt);
+    }
+    Ok(branches)
 }
 
 /// Reads a stoch file of the small form for a core and its periods. `Unbuilt`

@@ -101,19 +101,41 @@ fn answers(rt: HostRuntime) -> Result<(), Fail> {
     Ok(())
 }
 
+// A run over a shelf and a sink that fail at these calls.
+fn failed(
+    alloc: Global,
+    given: &[&str],
+    load: u64,
+    put: u64,
+) -> Result<(Status, Vec<u8>), AllocError> {
+    let mut loads = Vec::new(alloc);
+    loads.push(load)?;
+    let mut puts = Vec::new(alloc);
+    puts.push(put)?;
+    let mut shelf = MemoryShelf::new(alloc, loads);
+    shelf.add("core", CORE.as_bytes())?;
+    shelf.add("time", TIME.as_bytes())?;
+    shelf.add("stoch", STOCH.as_bytes())?;
+    let mut out = MemorySink::new(alloc, puts);
+    let status = desk(alloc, &words(alloc, given)?, &mut shelf, &mut out);
+    let written = Vec::from_slice(alloc, out.bytes())?;
+    Ok((status, written))
+}
+
+// Each call of the shelf and of the sink would fail, so none was made.
 #[test]
 fn refuses_words(rt: HostRuntime) -> Result<(), Fail> {
     let alloc = rt.alloc();
     expect(
         &rt,
-        &ran(alloc, &[], CORE, TIME, STOCH)?,
+        &failed(alloc, &[], 1, 1)?,
         Status::Words,
         "",
         "no words",
     );
     expect(
         &rt,
-        &ran(alloc, &["wait", "core", "time"], CORE, TIME, STOCH)?,
+        &failed(alloc, &["wait", "core", "time"], 1, 1)?,
         Status::Words,
         "",
         "two files",
@@ -131,31 +153,9 @@ fn refuses_words(rt: HostRuntime) -> Result<(), Fail> {
     ] {
         let mut given = RIGHT;
         given[at] = word;
-        expect(
-            &rt,
-            &ran(alloc, &given, CORE, TIME, STOCH)?,
-            Status::Words,
-            "",
-            word,
-        );
+        expect(&rt, &failed(alloc, &given, 1, 1)?, Status::Words, "", word);
     }
     Ok(())
-}
-
-// A run over a shelf and a sink that fail at these calls.
-fn failed(alloc: Global, load: u64, put: u64) -> Result<(Status, Vec<u8>), AllocError> {
-    let mut loads = Vec::new(alloc);
-    loads.push(load)?;
-    let mut puts = Vec::new(alloc);
-    puts.push(put)?;
-    let mut shelf = MemoryShelf::new(alloc, loads);
-    shelf.add("core", CORE.as_bytes())?;
-    shelf.add("time", TIME.as_bytes())?;
-    shelf.add("stoch", STOCH.as_bytes())?;
-    let mut out = MemorySink::new(alloc, puts);
-    let status = desk(alloc, &words(alloc, &RIGHT)?, &mut shelf, &mut out);
-    let written = Vec::from_slice(alloc, out.bytes())?;
-    Ok((status, written))
 }
 
 #[test]
@@ -164,7 +164,7 @@ fn fails_at_each_place(rt: HostRuntime) -> Result<(), Fail> {
     for load in 1..4 {
         expect(
             &rt,
-            &failed(alloc, load, 0)?,
+            &failed(alloc, &RIGHT, load, 0)?,
             Status::ReadFault { faults: 1 },
             "",
             "a load fails",
@@ -182,7 +182,7 @@ fn fails_at_each_place(rt: HostRuntime) -> Result<(), Fail> {
     for (at, front) in fronts.iter().enumerate() {
         expect(
             &rt,
-            &failed(alloc, 0, at as u64 + 1)?,
+            &failed(alloc, &RIGHT, 0, at as u64 + 1)?,
             Status::WriteFault { faults: 1 },
             front,
             "a put fails",

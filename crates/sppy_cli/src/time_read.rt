@@ -4,10 +4,10 @@ ghost use Rattle.std.specs.Option.{option_map_or};
 ghost use Rattle.std.specs.Str.{bytes_eq};
 ghost use Rattle.line_core.specs.Lines.{field_text};
 ghost use Rattle.sppy_cli.specs.CoreFile.{IsCore};
-ghost use Rattle.sppy_cli.specs.Form.{no_line};
+ghost use Rattle.sppy_cli.specs.Form.{no_line, passing};
 ghost use Rattle.sppy_cli.specs.Refusals.{ReadAnswers};
 ghost use Rattle.sppy_cli.specs.Sections.{section, section_name};
-ghost use Rattle.sppy_cli.specs.TimeFile.{all_rows, begins_after, begins_first, column_at, is_explicit, is_in_time, number_of, period_fits, periods_in, periods_of, row_at, second_line, small_periods, time_fits, time_header_fits};
+ghost use Rattle.sppy_cli.specs.TimeFile.{all_rows, are_small_periods, begins_after, begins_first, column_at, is_explicit, is_in_time, number_of, period_fits, periods_in, periods_of, row_at, second_line, time_fits, time_header_fits};
 
 use crate::core_file::Core;
 use crate::core_read::copy;
@@ -222,27 +222,19 @@ fn periods_in(
     }
 }
 
-// Periods without an entry of a later column in an earlier row.
-fn small_periods(core: &Core, periods: Periods) -> Result<Periods, Refusal>
-    ensures { ReadAnswers result (small_periods core.now periods) }
-{
-    if are_in_time(&periods, &core.entries) {
-        Ok(periods)
-    } else {
-        Err(Refusal::Unbuilt)
-    }
-}
-
 // The periods of the small form, from the lines before the end.
 fn small_time(alloc: Global, core: &Core, bytes: &[u8], body: &[Line]) -> Result<Periods, Refusal>
     requires columns { length core.now.columns ≤ 8 }
     requires rows { length core.now.rows ≤ 8 }
-    ensures { ReadAnswers result (small_periods core.now (periods_in core.now bytes.now body.now)) }
+    ensures { ReadAnswers result (passing (are_small_periods core.now) (periods_in core.now bytes.now body.now)) }
 {
     let Ok(periods) = periods_in(alloc, core, bytes, body) else {
         return Err(Refusal::Memory);
     };
-    small_periods(core, periods)
+    if !are_in_time(&periods, &core.entries) {
+        return Err(Refusal::Unbuilt);
+    }
+    Ok(periods)
 }
 
 /// Reads a time file of the small form for a core. `Unbuilt` comes exactly
