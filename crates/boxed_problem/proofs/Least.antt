@@ -5,10 +5,10 @@ use Rattle.boxed_problem.specs.Objective.{value_of}
 use Rattle.boxed_problem.specs.Optimum.{improves, better, best_of, first_least, lower_of, priced, feasible_points, meets_all}
 use Rattle.boxed_problem.specs.Points.{box_points}
 use Rattle.boxed_problem.specs.declared.parts.Best.{Best}
-use Rattle.boxed_problem.specs.declared.problem.Boxed.{Boxed}
+use Rattle.boxed_problem.specs.Data.{Problem}
 
 -- the best so far, after the points of a list one by one
-abbrev pub best_after : Boxed → Option Best → List (List ℤ) → Option Best
+abbrev pub best_after : Problem → Option Best → List (List ℤ) → Option Best
 best_after b best xs = fold (better b) best xs
 
 -- the better of the best so far and the best of what follows
@@ -29,7 +29,7 @@ merged_three a p r = by_tests (int_lt p.value a.value) (int_lt r.value p.value) 
     by_tests false false true e f g = absurd (grind (arith, ints))
     by_tests false false false e f g = ap (λ q. Some (if q then r else a)) g ∙ sym (ap (λ q. Some (if q then p else a)) e)
 
-merged_one : (b : Boxed) (best : Option Best) (x : List ℤ) (rest : Option Best) →
+merged_one : (b : Problem) (best : Option Best) (x : List ℤ) (rest : Option Best) →
     merged (if improves (value_of b x) best then Some (priced b x) else best) rest ≡ merged best (Some (lower_of (priced b x) rest))
 merged_one b None x None = refl
 merged_one b None x (Some r) = refl
@@ -41,7 +41,7 @@ merged_one b (Some a) x None = by_test (int_lt (value_of b x) a.value)
 merged_one b (Some a) x (Some r) = merged_three a (priced b x) r
 
 -- going over the points one by one finds the first least one that meets the rows
-pub best_after-is : (b : Boxed) (best : Option Best) (xs : List (List ℤ)) → best_after b best xs ≡ merged best (first_least b (filter (meets_all b) xs))
+pub best_after-is : (b : Problem) (best : Option Best) (xs : List (List ℤ)) → best_after b best xs ≡ merged best (first_least b (filter (meets_all b) xs))
 best_after-is b best [] = refl
 best_after-is b best (x ∷ xs) = best_after-is b (better b best x) xs ∙ by_test (meets_all b x) refl
   where
@@ -54,6 +54,6 @@ merged_none : (o : Option Best) → merged None o ≡ o
 merged_none None = refl
 merged_none (Some r) = refl
 
-pub best_of-is : (b : Boxed) → best_after b None (box_points b.columns) ≡ best_of b
+pub best_of-is : (b : Problem) → best_after b None (box_points b.columns) ≡ best_of b
 unfolding best_of
 best_of-is b = best_after-is b None (box_points b.columns) ∙ merged_none (first_least b (feasible_points b))

@@ -10,7 +10,7 @@ use Rattle.boxed_problem.specs.Points.{run_from, side_count, side_values}
 use Rattle.boxed_problem.specs.Sides.{Within, corner, reach, side_at}
 use Rattle.boxed_problem.specs.Sums.{number_at, size_below, sum_below}
 use Rattle.boxed_problem.specs.declared.parts.Side.{Side}
-use Rattle.boxed_problem.specs.declared.problem.Boxed.{Boxed}
+use Rattle.boxed_problem.specs.Data.{Problem}
 use Rattle.boxed_problem.proofs.Halving.{Single, single_at}
 use Rattle.boxed_problem.proofs.Listing.{count_is}
 use Rattle.boxed_problem.proofs.Lying.{Lies, corner_at, filled_at, within_reach}
@@ -80,14 +80,14 @@ sum_below-order zero f g h = omega (arith, ints)
 sum_below-order (suc n) f g h = let p = h n in let r = sum_below-order n f g h in omega (arith, ints)
 
 -- the least in a box is at most the objective at each of its points
-pub least_holds : (b : Boxed) (box : List Side) (x : List ℤ) → Lies box x → least_value b box ≤ℤ value_of b x
+pub least_holds : (b : Problem) (box : List Side) (x : List ℤ) → Lies box x → least_value b box ≤ℤ value_of b x
 least_holds b box x h =
     let r = sum_below-order (length b.columns) (least_part b.line b.square box) (value_part b.line b.square x)
     (λ j. let l = h j in least_on-le (number_at b.line j) (number_at b.square j) (side_at box j) (number_at x j) l.0 l.1) in
     omega (arith, ints)
 
 -- in a box of single columns it is the objective at the only point
-pub single_least : (b : Boxed) (box : List Side) → Single box → least_value b box ≡ value_of b (corner box)
+pub single_least : (b : Problem) (box : List Side) → Single box → least_value b box ≡ value_of b (corner box)
 single_least b box h =
     let p = least_holds b box (corner box) (λ j. let e = corner_at box j in let d = single_at box h j in (omega (arith, ints), omega (arith, ints))) in
     let q = sum_below-order (length b.columns) (value_part b.line b.square (corner box)) (least_part b.line b.square box) (λ j. at_least j) in

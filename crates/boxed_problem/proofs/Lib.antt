@@ -4,6 +4,7 @@ pub mod Stepping
 pub mod Least
 pub mod Comparisons
 pub mod RowTests
+pub mod SameData
 pub mod Members
 pub mod Ordered
 pub mod Optimal

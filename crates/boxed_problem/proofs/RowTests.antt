@@ -5,7 +5,7 @@ use Rattle.boxed_problem.specs.Points.{InBox}
 use Rattle.boxed_problem.specs.Rows.{activity, meets, meets_rows}
 use Rattle.boxed_problem.specs.declared.parts.Limits.{Limits}
 use Rattle.boxed_problem.specs.declared.parts.Entry.{Entry}
-use Rattle.boxed_problem.specs.declared.problem.Boxed.{Boxed}
+use Rattle.boxed_problem.specs.Data.{Problem}
 use Rattle.boxed_problem.proofs.Comparisons.{both, both_left, both_right}
 
 -- what holds of all rows holds of each
@@ -32,8 +32,8 @@ row_fails n rows entries x i l h = by_test (meets_rows n rows entries x) refl
     by_test true e = sym (row_met n rows entries x i e l) ∙ h
     by_test false e = refl
 
-pub feasible_from : (b : Boxed) (x : List ℤ) → InBox b.columns x → meets_all b x ≡ true → Feasible b x
+pub feasible_from : (b : Problem) (x : List ℤ) → InBox b.columns x → meets_all b x ≡ true → Feasible b x
 feasible_from b x i h = record { inside = i; rows = λ k l. row_met (length b.rows) b.rows b.entries x k h l }
 
-pub feasible_meets : (b : Boxed) (x : List ℤ) → Feasible b x → meets_all b x ≡ true
+pub feasible_meets : (b : Problem) (x : List ℤ) → Feasible b x → meets_all b x ≡ true
 feasible_meets b x f = rows_met (length b.rows) b.rows b.entries x f.rows

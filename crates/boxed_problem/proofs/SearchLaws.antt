@@ -13,19 +13,18 @@ use Rattle.boxed_problem.specs.Ranges.{misses_one}
 use Rattle.boxed_problem.specs.Sides.{Filled, corner}
 use Rattle.boxed_problem.specs.declared.parts.Best.{Best}
 use Rattle.boxed_problem.specs.declared.parts.Side.{Side}
-use Rattle.boxed_problem.specs.declared.problem.Boxed.{Boxed}
+use Rattle.boxed_problem.specs.Data.{Problem}
 use Rattle.boxed_problem.proofs.Halving.{Single, cut_of, filled_cut, narrower, points_cut, points_single, single_of}
 use Rattle.boxed_problem.proofs.Least.{best_after, best_of-is}
 use Rattle.boxed_problem.proofs.LeastLaws.{least_holds, single_least}
 use Rattle.boxed_problem.proofs.Listing.{corner_on}
 use Rattle.boxed_problem.proofs.Lying.{Lies, on_lies}
 use Rattle.boxed_problem.proofs.Members.{listed_on}
-use Rattle.boxed_problem.proofs.Optimal.{filled_of}
 use Rattle.boxed_problem.proofs.RangeLaws.{either_left, either_right, rows_not_missed, single_met}
 use Rattle.boxed_problem.proofs.Comparisons.{above_from_test, test_from_above}
 
 -- two searches that agree on the halves go on alike
-go_on-same : (f g : List Side → Progress → Progress) (b : Boxed) (box : List Side) (o : Option Halves) (p : Progress) →
+go_on-same : (f g : List Side → Progress → Progress) (b : Problem) (box : List Side) (o : Option Halves) (p : Progress) →
     ((h : Halves) → o ≡ Some h → ((q : Progress) → f h.low q ≡ g h.low q) × ((q : Progress) → f h.high q ≡ g h.high q)) → go_on f b box o p ≡ go_on g b box o p
 go_on-same f g b box None p h = refl
 go_on-same f g b box (Some c) p h =
@@ -33,7 +32,7 @@ go_on-same f g b box (Some c) p h =
     ap (λ q. f c.high q) (r.0 p) ∙ r.1 (g c.low p)
 
 -- a depth above the width is enough
-pub depth_enough : (m n : ℕ) (b : Boxed) (box : List Side) (p : Progress) → width box < m → width box < n → search_within m b box p ≡ search_within n b box p
+pub depth_enough : (m n : ℕ) (b : Problem) (box : List Side) (p : Progress) → width box < m → width box < n → search_within m b box p ≡ search_within n b box p
 unfolding search_within
 depth_enough zero n b box p h k = absurd (omega arith)
 depth_enough (suc m) zero b box p h k = absurd (omega arith)
@@ -46,7 +45,7 @@ depth_enough (suc m) (suc n) b box p h k =
     )))
 
 -- the search of a box, by what it does first
-pub search_step : (b : Boxed) (box : List Side) (p : Progress) → search b box p ≡ (if is_left b box p.best then with_opened p else go_on (search b) b box (halves box) (with_opened p))
+pub search_step : (b : Problem) (box : List Side) (p : Progress) → search b box p ≡ (if is_left b box p.best then with_opened p else go_on (search b) b box (halves box) (with_opened p))
 unfolding search search_within
 search_step b box p =
     ap (λ q. if is_left b box p.best then with_opened p else q)
@@ -57,11 +56,11 @@ search_step b box p =
     )))
 
 -- a box that is left is opened for nothing
-pub search_left : (b : Boxed) (box : List Side) (p : Progress) → is_left b box p.best ≡ true → search b box p ≡ with_opened p
+pub search_left : (b : Problem) (box : List Side) (p : Progress) → is_left b box p.best ≡ true → search b box p ≡ with_opened p
 search_left b box p e = search_step b box p ∙ ap (λ t. if t then with_opened p else go_on (search b) b box (halves box) (with_opened p)) e
 
 -- a box that isn't left is halved, or gives its point
-pub search_on : (b : Boxed) (box : List Side) (p : Progress) (o : Option Halves) → is_left b box p.best ≡ false → halves box ≡ o → search b box p ≡ go_on (search b) b box o (with_opened p)
+pub search_on : (b : Problem) (box : List Side) (p : Progress) (o : Option Halves) → is_left b box p.best ≡ false → halves box ≡ o → search b box p ≡ go_on (search b) b box o (with_opened p)
 search_on b box p o e d =
     search_step b box p
     ∙ (ap (λ t. if t then with_opened p else go_on (search b) b box (halves box) (with_opened p)) e ∙ ap (λ h. go_on (search b) b box h (with_opened p)) d)
@@ -80,7 +79,7 @@ improves_less None a v h e = absurd cc
 improves_less (Some r) a v h e = let k = above_from_test a r.value e in test_from_above v r.value (omega (arith, ints))
 
 -- the best so far stays at each point of a box that is left
-pub left_stays : (b : Boxed) (box : List Side) (best : Option Best) (x : List ℤ) → Lies box x → is_left b box best ≡ true → better b best x ≡ best
+pub left_stays : (b : Problem) (box : List Side) (best : Option Best) (x : List ℤ) → Lies box x → is_left b box best ≡ true → better b best x ≡ best
 left_stays b box best x h e = ap (λ t. if t then Some (priced b x) else best) (not_taken (misses_one (length b.rows) b.rows b.entries box) (improves (least_value b box) best) refl refl e)
   where
     not_met : (t : Bool) → meets_all b x ≡ t → misses_one (length b.rows) b.rows b.entries box ≡ true → t ≡ false
@@ -92,16 +91,16 @@ left_stays b box best x h e = ap (λ t. if t then Some (priced b x) else best) (
     not_taken false true d k f = absurd cc
     not_taken false false d k f = both_tests (meets_all b x) (improves (value_of b x) best) (improves_less best (least_value b box) (value_of b x) (least_holds b box x h) k)
 
-stays : (b : Boxed) (box : List Side) (best : Option Best) (xs : List (List ℤ)) → AllByRecursion (OnSides box) xs → is_left b box best ≡ true → best_after b best xs ≡ best
+stays : (b : Problem) (box : List Side) (best : Option Best) (xs : List (List ℤ)) → AllByRecursion (OnSides box) xs → is_left b box best ≡ true → best_after b best xs ≡ best
 stays b box best [] a e = refl
 stays b box best (x ∷ xs) a e = ap (λ o. best_after b o xs) (left_stays b box best x (on_lies box x a.0) e) ∙ stays b box best xs a.1 e
 
 -- a box may be left
-pub left_sound : (b : Boxed) (box : List Side) (best : Option Best) → Filled box → is_left b box best ≡ true → best_after b best (box_points box) ≡ best
+pub left_sound : (b : Problem) (box : List Side) (best : Option Best) → Filled box → is_left b box best ≡ true → best_after b best (box_points box) ≡ best
 left_sound b box best f e = stays b box best (box_points box) (listed_on box f) e
 
 -- the point of a box of single columns that isn't left is a new best one
-pub single_taken : (b : Boxed) (box : List Side) (best : Option Best) → Filled box → Single box → is_left b box best ≡ false → best_after b best (box_points box) ≡ Some (priced b (corner box))
+pub single_taken : (b : Problem) (box : List Side) (best : Option Best) → Filled box → Single box → is_left b box best ≡ false → best_after b best (box_points box) ≡ Some (priced b (corner box))
 single_taken b box best f s e =
     let lies = on_lies box (corner box) (corner_on box f) in
     let met = single_met (length b.rows) b.rows b.entries box (corner box) s lies (either_left (misses_one (length b.rows) b.rows b.entries box) (not (improves (least_value b box) best)) e) in
@@ -114,7 +113,7 @@ single_taken b box best f s e =
     not_not false h = absurd cc
 
 -- the search of a box goes on to the best after all its points
-go_on-best : (g : List Side → Progress → Progress) (b : Boxed) (box : List Side) (o : Option Halves) (p : Progress) → halves box ≡ o → Filled box → is_left b box p.best ≡ false →
+go_on-best : (g : List Side → Progress → Progress) (b : Problem) (box : List Side) (o : Option Halves) (p : Progress) → halves box ≡ o → Filled box → is_left b box p.best ≡ false →
     ((h : Halves) → o ≡ Some h → ((q : Progress) → (g h.low q).best ≡ best_after b q.best (box_points h.low)) × ((q : Progress) → (g h.high q).best ≡ best_after b q.best (box_points h.high))) →
     (go_on g b box o (with_opened p)).best ≡ best_after b p.best (box_points box)
 go_on-best g b box None p e f l h = sym (single_taken b box p.best f (single_of box f e) l)
@@ -125,7 +124,7 @@ go_on-best g b box (Some c) p e f l h =
     ∙ (ap (λ o. best_after b o (box_points c.high)) (r.0 (with_opened p))
     ∙ (sym (fold-append (better b) p.best (box_points c.low) (box_points c.high)) ∙ sym (ap (λ ps. best_after b p.best ps) cut)))
 
-within_best : (n : ℕ) (b : Boxed) (box : List Side) (p : Progress) → Filled box → width box < n → (search_within n b box p).best ≡ best_after b p.best (box_points box)
+within_best : (n : ℕ) (b : Problem) (box : List Side) (p : Progress) → Filled box → width box < n → (search_within n b box p).best ≡ best_after b p.best (box_points box)
 unfolding search_within
 within_best zero b box p f w = absurd (omega arith)
 within_best (suc n) b box p f w = by_test (is_left b box p.best) refl
@@ -141,19 +140,19 @@ within_best (suc n) b box p f w = by_test (is_left b box p.best) refl
     by_test false e r = r e
 
 -- the search of a box finds the best of its points
-pub search_best : (b : Boxed) (box : List Side) (p : Progress) → Filled box → (search b box p).best ≡ best_after b p.best (box_points box)
+pub search_best : (b : Problem) (box : List Side) (p : Progress) → Filled box → (search b box p).best ≡ best_after b p.best (box_points box)
 unfolding search
 search_best b box p f = within_best (suc (width box)) b box p f (omega arith)
 
 -- the search of the whole box finds the best
-pub search_finds : (b : Boxed) → (search b b.columns nothing_yet).best ≡ best_of b
-search_finds b = search_best b b.columns nothing_yet (filled_of b) ∙ best_of-is b
+pub search_finds : (b : Problem) → Filled b.columns → (search b b.columns nothing_yet).best ≡ best_of b
+search_finds b filled = search_best b b.columns nothing_yet filled ∙ best_of-is b
 
-go_on-opens : (g : List Side → Progress → Progress) → ((box : List Side) (p : Progress) → p.opened ≤ (g box p).opened) → (b : Boxed) (box : List Side) (o : Option Halves) (p : Progress) → p.opened ≤ (go_on g b box o p).opened
+go_on-opens : (g : List Side → Progress → Progress) → ((box : List Side) (p : Progress) → p.opened ≤ (g box p).opened) → (b : Problem) (box : List Side) (o : Option Halves) (p : Progress) → p.opened ≤ (go_on g b box o p).opened
 go_on-opens g h b box None p = omega arith
 go_on-opens g h b box (Some c) p = omega (arith, h c.low p, h c.high (g c.low p))
 
-within_opens : (n : ℕ) (b : Boxed) (box : List Side) (p : Progress) → p.opened ≤ (search_within n b box p).opened
+within_opens : (n : ℕ) (b : Problem) (box : List Side) (p : Progress) → p.opened ≤ (search_within n b box p).opened
 unfolding search_within
 within_opens zero b box p = omega arith
 within_opens (suc n) b box p =
@@ -165,22 +164,22 @@ within_opens (suc n) b box p =
     by_test false h = omega (arith, h)
 
 -- the count of opened boxes never falls
-pub search_opens : (b : Boxed) (box : List Side) (p : Progress) → p.opened ≤ (search b box p).opened
+pub search_opens : (b : Problem) (box : List Side) (p : Progress) → p.opened ≤ (search b box p).opened
 unfolding search
 search_opens b box p = within_opens (suc (width box)) b box p
 
 -- the search of a box opens at least this one
-pub search_opens_one : (b : Boxed) (box : List Side) (p : Progress) → p.opened < (search b box p).opened
+pub search_opens_one : (b : Problem) (box : List Side) (p : Progress) → p.opened < (search b box p).opened
 search_opens_one b box p = omega (arith, ap (λ (q : Progress). q.opened) (search_step b box p), by_test (is_left b box p.best))
   where
     by_test : (t : Bool) → p.opened < (if t then with_opened p else go_on (search b) b box (halves box) (with_opened p)).opened
     by_test true = omega arith
     by_test false = omega (arith, go_on-opens (search b) (λ half q. search_opens b half q) b box (halves box) (with_opened p))
 
-pub search_all-push : (b : Boxed) (boxes : List (List Side)) (box : List Side) (p : Progress) → search_all b (boxes ++ box ∷ []) p ≡ search_all b boxes (search b box p)
+pub search_all-push : (b : Problem) (boxes : List (List Side)) (box : List Side) (p : Progress) → search_all b (boxes ++ box ∷ []) p ≡ search_all b boxes (search b box p)
 search_all-push b [] box p = refl
 search_all-push b (c ∷ boxes) box p = ap (λ q. search b c q) (search_all-push b boxes box p)
 
-pub search_all-opens : (b : Boxed) (boxes : List (List Side)) (p : Progress) → p.opened ≤ (search_all b boxes p).opened
+pub search_all-opens : (b : Problem) (boxes : List (List Side)) (p : Progress) → p.opened ≤ (search_all b boxes p).opened
 search_all-opens b [] p = omega arith
 search_all-opens b (box ∷ boxes) p = omega (arith, search_all-opens b boxes p, search_opens b box (search_all b boxes p))

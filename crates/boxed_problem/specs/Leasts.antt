@@ -6,7 +6,7 @@ use Rattle.boxed_problem.specs.Points.{side_values}
 use Rattle.boxed_problem.specs.Sides.{side_at}
 use Rattle.boxed_problem.specs.Sums.{number_at, sum_below}
 use Rattle.boxed_problem.specs.declared.parts.Side.{Side}
-use Rattle.boxed_problem.specs.declared.problem.Boxed.{Boxed}
+use Rattle.boxed_problem.specs.Data.{Problem}
 
 -- the least that a column adds to the objective over all whole numbers of a side
 abbrev pub least_on : ℤ → ℤ → Side → ℤ
@@ -35,5 +35,5 @@ abbrev pub least_part : List ℤ → List ℤ → List Side → ℕ → ℤ
 least_part line square box j = least_on (number_at line j) (number_at square j) (side_at box j)
 
 -- the objective's least in a box, column by column
-abbrev pub least_value : Boxed → List Side → ℤ
+abbrev pub least_value : Problem → List Side → ℤ
 least_value b box = b.constant +ℤ sum_below (length b.columns) (least_part b.line b.square box)

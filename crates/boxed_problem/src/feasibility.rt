@@ -1,5 +1,6 @@
 ghost use Rattle.std.specs.Prelude.{◌≡◌, ◌*◌, ◌*ℤ◌, ◌^◌, ◌≤◌, ◌<◌, ◌↔◌, IsTrue, length, unsigned_abs};
 ghost use Rattle.std.specs.List.{All, sum_by};
+ghost use Rattle.boxed_problem.specs.Data.{problem_of};
 ghost use Rattle.boxed_problem.specs.Facts.{entry_size};
 ghost use Rattle.boxed_problem.specs.Optimum.{Feasible, meets_all};
 ghost use Rattle.boxed_problem.specs.Points.{InBox};
@@ -91,7 +92,7 @@ impl Boxed {
     /// Whether a point of the box meets all rows.
     pub fn meets_rows(&self, point: &List<i64>) -> bool
         requires { InBox self.now.columns point.now }
-        ensures { result ≡ meets_all self.now point.now }
+        ensures { result ≡ meets_all (problem_of self.now) point.now }
     {
         let sides = self.columns.as_slice();
         let rows = self.rows.as_slice();
@@ -108,7 +109,7 @@ impl Boxed {
     /// Whether a point has one value for each column, each in its box, and its
     /// activity lies in the limits of each row.
     pub fn feasible(&self, point: &List<i64>) -> bool
-        ensures { IsTrue result ↔ Feasible self.now point.now }
+        ensures { IsTrue result ↔ Feasible (problem_of self.now) point.now }
     {
         lies_in(self.columns.as_slice(), point.as_slice()) && self.meets_rows(point)
     }

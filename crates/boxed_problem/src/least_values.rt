@@ -1,4 +1,5 @@
 ghost use Rattle.std.specs.Prelude.{◌≡◌, ◌+◌, ◌*◌, ◌^◌, ◌≤◌, ◌≤ℤ◌, ◌<ℤ◌, pos, unsigned_abs};
+ghost use Rattle.boxed_problem.specs.Data.{problem_of};
 ghost use Rattle.boxed_problem.specs.Leasts.{IsLeastAt, IsNearest, IsVertex, least_on, least_value};
 ghost use Rattle.boxed_problem.specs.Sides.{Within, reach};
 
@@ -64,7 +65,7 @@ impl Boxed {
     /// its value at each point on them.
     pub fn least_value(&self, sides: &List<Side>) -> i128
         requires { Within sides.now self.now.columns }
-        ensures { result ≡ least_value self.now sides.now }
+        ensures { result ≡ least_value (problem_of self.now) sides.now }
     {
         let line = self.line.as_slice();
         let square = self.square.as_slice();

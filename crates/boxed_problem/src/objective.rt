@@ -1,4 +1,5 @@
 ghost use Rattle.std.specs.Prelude.{◌≡◌, ◌+◌, ◌*◌, ◌^◌, ◌≤◌, unsigned_abs};
+ghost use Rattle.boxed_problem.specs.Data.{problem_of};
 ghost use Rattle.boxed_problem.specs.Objective.{curve, value_of};
 ghost use Rattle.boxed_problem.specs.Points.{InBox};
 
@@ -18,7 +19,7 @@ impl Boxed {
     /// The objective at a point of the box.
     pub fn value(&self, point: &List<i64>) -> i128
         requires { InBox self.now.columns point.now }
-        ensures { result ≡ value_of self.now point.now }
+        ensures { result ≡ value_of (problem_of self.now) point.now }
     {
         let line = self.line.as_slice();
         let square = self.square.as_slice();

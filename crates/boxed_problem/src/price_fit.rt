@@ -1,4 +1,5 @@
 ghost use Rattle.std.specs.Prelude.{◌≡◌, ◌+◌, ◌*◌, ◌^◌, ◌≤◌, ◌↔◌, IsTrue, length, unsigned_abs};
+ghost use Rattle.boxed_problem.specs.Data.{problem_of};
 ghost use Rattle.boxed_problem.specs.PriceFit.{FitsPrices, HasSign, price_size};
 
 use crate::magnitude::{PART_MOST, add_product, row_size_upto, value_size_upto};
@@ -19,7 +20,7 @@ impl Boxed {
     /// Whether the prices' magnitude is small enough.
     fn is_small(&self, prices: &Prices) -> bool
         requires { length prices.now.values ≡ length self.now.rows }
-        ensures { IsTrue result ↔ (price_size self.now prices.now ≤ 2 ^ 125) }
+        ensures { IsTrue result ↔ (price_size (problem_of self.now) prices.now ≤ 2 ^ 125) }
     {
         let columns = self.columns.as_slice();
         let rows = self.rows.as_slice();
@@ -49,7 +50,7 @@ impl Boxed {
     /// price has the sign that its row's limits ask for, and the scale and the
     /// prices are small enough.
     pub fn fits(&self, prices: &Prices) -> bool
-        ensures { IsTrue result ↔ FitsPrices self.now prices.now }
+        ensures { IsTrue result ↔ FitsPrices (problem_of self.now) prices.now }
     {
         if prices.values.len() != self.rows.len() || prices.scale < 1 {
             return false;

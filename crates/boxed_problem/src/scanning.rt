@@ -1,4 +1,5 @@
 ghost use Rattle.std.specs.Prelude.{◌≡◌, ◌≤◌, IfOk, OnOk};
+ghost use Rattle.boxed_problem.specs.Data.{problem_of};
 ghost use Rattle.boxed_problem.specs.Optimum.{IsBest, best_of, better, improves};
 ghost use Rattle.boxed_problem.specs.Points.{InBox, point_count};
 
@@ -26,7 +27,7 @@ pub fn consider(
     best: &mut Option<Best>,
 ) -> Result<(), AllocError>
     requires { InBox problem.now.columns point.now }
-    ensures { OnOk result (best.new ≡ better problem.now best.old point.now) }
+    ensures { OnOk result (best.new ≡ better (problem_of problem.now) best.old point.now) }
 {
     if !problem.meets_rows(point) {
         return Ok(());
@@ -44,8 +45,8 @@ pub fn consider(
 /// smaller values first, found by going over all points of the box.
 pub fn scan(alloc: Global, problem: &Boxed) -> Result<Option<Best>, AllocError>
     requires { point_count problem.now.columns ≤ 1000000 }
-    ensures best { IfOk result (λ best. best ≡ best_of problem.now) }
-    ensures meaning { IfOk result (λ best. IsBest problem.now best) }
+    ensures best { IfOk result (λ best. best ≡ best_of (problem_of problem.now)) }
+    ensures meaning { IfOk result (λ best. IsBest (problem_of problem.now) best) }
 {
     let mut point = first_point(alloc, problem.columns.as_slice())?;
     let mut best = None;

@@ -1,12 +1,12 @@
 use Rattle.std.proofs.Common.{arith, refl, ap, sym, ◌∙◌, ◌≡◌, ℕ, zero, suc, ◌+◌, ◌<◌, true, false, List, [], ◌∷◌, ◌++◌, length, ◌≤ℤ◌, ◌<ℤ◌, Option, Some, None, if◌then◌else◌}
 use Rattle.std.specs.List.{AllByRecursion}
+use Rattle.boxed_problem.specs.Data.{Problem}
 use Rattle.boxed_problem.specs.Halves.{Halves, behind, halves, high_half, low_half}
 use Rattle.boxed_problem.specs.Optimum.{best_of, priced}
 use Rattle.boxed_problem.specs.PlainSearch.{Progress, is_left, nothing_yet, ref_count, search, search_all}
-use Rattle.boxed_problem.specs.Sides.{Within, corner, side_at}
+use Rattle.boxed_problem.specs.Sides.{Filled, Within, corner, side_at}
 use Rattle.boxed_problem.specs.declared.parts.Best.{Best}
 use Rattle.boxed_problem.specs.declared.parts.Side.{Side}
-use Rattle.boxed_problem.specs.declared.problem.Boxed.{Boxed}
 use Rattle.boxed_problem.proofs.Halving.{cut_of}
 use Rattle.boxed_problem.proofs.Lying.{cut_within, within_trans}
 use Rattle.boxed_problem.proofs.SearchLaws.{search_all-opens, search_all-push, search_finds, search_left, search_on, search_opens_one}
@@ -44,17 +44,17 @@ all_popped P [] box a = (tt, a.0)
 all_popped P (c ∷ boxes) box a = let r = all_popped P boxes box a.1 in ((a.0, r.0), r.1)
 
 -- a box that is left
-pub open_left : (b : Boxed) (box : List Side) (best : Option Best) (n : ℕ) (boxes : List (List Side)) → is_left b box best ≡ true →
+pub open_left : (b : Problem) (box : List Side) (best : Option Best) (n : ℕ) (boxes : List (List Side)) → is_left b box best ≡ true →
     search_all b boxes (record { best = best; opened = n + 1 }) ≡ search_all b boxes (search b box (record { best = best; opened = n }))
 open_left b box best n boxes e = ap (λ p. search_all b boxes p) (sym (search_left b box (record { best = best; opened = n }) e))
 
 -- a box of single columns
-pub open_single : (b : Boxed) (box : List Side) (best : Option Best) (n : ℕ) (boxes : List (List Side)) → is_left b box best ≡ false → halves box ≡ None →
+pub open_single : (b : Problem) (box : List Side) (best : Option Best) (n : ℕ) (boxes : List (List Side)) → is_left b box best ≡ false → halves box ≡ None →
     search_all b boxes (record { best = Some (priced b (corner box)); opened = n + 1 }) ≡ search_all b boxes (search b box (record { best = best; opened = n }))
 open_single b box best n boxes e d = ap (λ p. search_all b boxes p) (sym (search_on b box (record { best = best; opened = n }) None e d))
 
 -- a box that is halved
-pub open_halves : (b : Boxed) (box : List Side) (best : Option Best) (n : ℕ) (h : Halves) (boxes : List (List Side)) → is_left b box best ≡ false → halves box ≡ Some h →
+pub open_halves : (b : Problem) (box : List Side) (best : Option Best) (n : ℕ) (h : Halves) (boxes : List (List Side)) → is_left b box best ≡ false → halves box ≡ Some h →
     search_all b ((boxes ++ h.high ∷ []) ++ h.low ∷ []) (record { best = best; opened = n + 1 }) ≡ search_all b boxes (search b box (record { best = best; opened = n }))
 open_halves b box best n h boxes e d =
     search_all-push b (boxes ++ h.high ∷ []) h.low (record { best = best; opened = n + 1 })
@@ -62,7 +62,7 @@ open_halves b box best n h boxes e d =
     ∙ ap (λ p. search_all b boxes p) (sym (search_on b box (record { best = best; opened = n }) (Some h) e d)))
 
 -- where a box is still to be opened, the plain search opens more
-pub budget_spent : (b : Boxed) (boxes : List (List Side)) (box : List Side) (best : Option Best) (n : ℕ) →
+pub budget_spent : (b : Problem) (boxes : List (List Side)) (box : List Side) (best : Option Best) (n : ℕ) →
     search_all b (boxes ++ box ∷ []) (record { best = best; opened = n }) ≡ search b b.columns nothing_yet → n < ref_count b
 budget_spent b boxes box best n e =
     let p = ap (λ (q : Progress). q.opened) (sym (search_all-push b boxes box (record { best = best; opened = n })) ∙ e) in
@@ -71,5 +71,5 @@ budget_spent b boxes box best n e =
     omega (arith, p, q, r)
 
 -- where no box is left to open, the best so far is the best of all
-pub search_done : (b : Boxed) (best : Option Best) (n : ℕ) → record { best = best; opened = n } ≡ search b b.columns nothing_yet → best_of b ≡ best
-search_done b best n e = sym (ap (λ (q : Progress). q.best) e ∙ search_finds b)
+pub search_done : (b : Problem) (best : Option Best) (n : ℕ) → Filled b.columns → record { best = best; opened = n } ≡ search b b.columns nothing_yet → best_of b ≡ best
+search_done b best n filled e = sym (ap (λ (q : Progress). q.best) e ∙ search_finds b filled)

@@ -1,5 +1,6 @@
 ghost use Rattle.std.specs.Prelude.{◌≡◌, ℕ, ◌+◌, IfOk, OnOk};
 ghost use Rattle.std.specs.List.{AllByRecursion};
+ghost use Rattle.boxed_problem.specs.Data.{problem_of};
 ghost use Rattle.boxed_problem.specs.Optimum.{priced};
 ghost use Rattle.boxed_problem.specs.PlainSearch.{search, search_all};
 ghost use Rattle.boxed_problem.specs.Sides.{Within, corner};
@@ -15,7 +16,7 @@ use wide_num::List;
 /// The only point of a box of single columns, with its value.
 fn only_point(alloc: Global, problem: &Boxed, sides: &List<Side>) -> Result<Best, AllocError>
     requires { Within sides.now problem.now.columns }
-    ensures { IfOk result (λ best. best ≡ priced problem.now (corner sides.now)) }
+    ensures { IfOk result (λ best. best ≡ priced (problem_of problem.now) (corner sides.now)) }
 {
     let point = first_point(alloc, sides.as_slice())?;
     let value = problem.value(&point);
@@ -34,7 +35,7 @@ fn open(
     requires sides { Within sides problem.now.columns }
     requires stack { AllByRecursion (λ s. Within s problem.now.columns) stack.old }
     ensures stack { OnOk result (AllByRecursion (λ s. Within s problem.now.columns) stack.new) }
-    ensures search { OnOk result ((n : ℕ) → search_all problem.now stack.new (record { best = best.new; opened = n + 1 }) ≡ search_all problem.now stack.old (search problem.now sides (record { best = best.old; opened = n }))) }
+    ensures search { OnOk result ((n : ℕ) → search_all (problem_of problem.now) stack.new (record { best = best.new; opened = n + 1 }) ≡ search_all (problem_of problem.now) stack.old (search (problem_of problem.now) sides (record { best = best.old; opened = n }))) }
 {
     if is_left(problem, &sides, best) {
         return Ok(());
@@ -55,7 +56,7 @@ fn open(
 /// where no point is feasible, and `Spent` only where the plain search opens
 /// more boxes than the budget; `opened` is then the budget.
 pub fn solve(alloc: Global, problem: &Boxed, budget: u64) -> Result<Best, SolveFault>
-    ensures { IsAnswer problem.now budget result }
+    ensures { IsAnswer (problem_of problem.now) budget result }
 {
     let Ok(whole) = copy(&problem.columns) else {
         return Err(SolveFault::Memory);

@@ -1,14 +1,13 @@
 -- What a command's status says of files of the small form, and of a first wrong file.
-use Rattle.std.proofs.Common.{arith, ◌≡◌, ◌∙◌, ℕ, zero, suc, ℤ, Bool, true, false, nat_le, if◌then◌else◌, ◌<◌, ◌≤◌, ◌⊎◌, inl, inr, List, Option, Some, None, Err, length, refl, sym, ap, subst}
+use Rattle.std.proofs.Common.{arith, ◌≡◌, ◌∙◌, ℕ, Bool, true, false, nat_le, if◌then◌else◌, List, Option, Some, None, Err, length, refl, sym, ap, subst}
 use Rattle.std.specs.Prelude.{IfSome}
 use Rattle.std.specs.FinMap.{get}
-use Rattle.std.proofs.lemmas.Bool.{cases_lt, leb-true}
+use Rattle.std.proofs.lemmas.Bool.{leb-true}
 use Rattle.io_edge.specs.Shelves.{FileTable}
 use Rattle.sppy_cli.specs.Answers.{CountsLoads, WritesWait, status_of_failure}
 use Rattle.sppy_cli.specs.Complete.{AreSmall, IsComplete, Refuses}
 use Rattle.sppy_cli.specs.CoreFile.{core_of}
 use Rattle.sppy_cli.specs.Desk.{Answers, CountsReads, CountsWrites, HasFault, IsRunIn, IsWrong, IsWrongAt, branches_at, core_at, most_bytes, periods_at, said_by}
-use Rattle.sppy_cli.specs.Scenarios.{HasLeast, HasSum}
 use Rattle.sppy_cli.specs.StochFile.{branches_of}
 use Rattle.sppy_cli.specs.TimeFile.{periods_of}
 use Rattle.sppy_cli.specs.Words.{Request}
@@ -22,6 +21,7 @@ use Rattle.sppy_cli.specs.declared.status.InputKind.{InputKind}
 use Rattle.sppy_cli.specs.declared.status.InputKind.TheVariants as kind
 use Rattle.sppy_cli.specs.declared.status.Status.{Status}
 use Rattle.sppy_cli.specs.declared.status.Status.TheVariants as status
+use Rattle.sppy_cli.proofs.HavingPoints.{summed_have_points}
 
 some_same : {X : Type 0} (given : Option X) (x y : X) → given ≡ Some x → given ≡ Some y → x ≡ y
 some_same given x y e f = cc
@@ -29,15 +29,6 @@ some_same given x y e f = cc
 -- the files of a run are of the small form
 files_of_run : (table : FileTable) (request : Request) (run : Run) → IsRunIn table request run → AreSmall table request
 files_of_run table request run is = record { core = is.core; periods = is.periods; branches = is.branches; core_is = is.core_is; periods_are = is.periods_are; branches_are = is.branches_are }
-
--- a sum of least values has one of each scenario
-all_leasts : (run : Run) (n : ℕ) (sum : ℤ) → HasSum run n sum → (s : ℕ) → s < n → (least : ℤ) × HasLeast run s (Some least)
-all_leasts run zero sum has s less = absurd (omega arith)
-all_leasts run (suc n) sum (before, least, sums, has, e) s less = by_place (all_leasts run n before sums s) (cases_lt s n)
-  where
-    by_place : (s < n → (least : ℤ) × HasLeast run s (Some least)) → (s < n) ⊎ (n ≤ s) → (least : ℤ) × HasLeast run s (Some least)
-    by_place earlier (inl under) = earlier under
-    by_place earlier (inr over) = let same : n ≡ s = omega arith in (least, subst (λ m. HasLeast run m (Some least)) same has)
 
 -- a wrong file says nothing
 wrong_says_nothing : {X : Type 0} (read : List ℕ → Option X) (file : Option (List ℕ)) (kind : InputKind) (x : X) → IsWrong read file kind → said_by read file ≡ Some x → ⊥
@@ -114,7 +105,7 @@ one_fault table request f g (l, wrong) (m, also) =
 complete_by : (table : FileTable) (request : Request) (old new : Option (List ℕ)) (r u w v : ℕ) (s : Status) →
     Answers table request old new s → CountsReads r u s → CountsWrites w v s → IsComplete table request r u w v s
 complete_by table request old new r u w v status.Done (run, text, is, wait, e) reads writes small calm_in calm_out =
-    (run, is, all_leasts run (length run.program.scenarios) wait.bound wait.bound_is)
+    (run, is, summed_have_points run (length run.program.scenarios) wait.bound wait.bound_is)
 complete_by table request old new r u w v (status.Infeasible scenario) (run, is, first, e) reads writes small calm_in calm_out = (run, is, first)
 complete_by table request old new r u w v status.Memory a reads writes small calm_in calm_out = tt
 complete_by table request old new r u w v status.Words a reads writes small calm_in calm_out = a

@@ -7,7 +7,7 @@ use Rattle.io_edge.specs.Shelves.{FileTable}
 use Rattle.io_edge.specs.Sinks.{appended}
 use Rattle.sppy_cli.specs.Answers.{LoadsRun, PutsBound, WritesWait, status_of_failure, status_of_put}
 use Rattle.sppy_cli.specs.Desk.{Answers, Appends, GainsFront, IsRunIn, IsWaitText, Writes, heading_text, names_of, with_names}
-use Rattle.sppy_cli.specs.Scenarios.{IsWaitAndSee}
+use Rattle.sppy_cli.specs.Scenarios.{wait_and_see_of}
 use Rattle.sppy_cli.specs.Words.{Request}
 use Rattle.sppy_cli.specs.declared.puts.PutFailure.{PutFailure}
 use Rattle.sppy_cli.specs.declared.puts.PutFailure.TheVariants as put
@@ -18,7 +18,7 @@ use Rattle.sppy_cli.specs.declared.status.Status.{Status}
 use Rattle.sppy_cli.specs.declared.status.Status.TheVariants as status
 
 -- the heading and the lines of the bound are the whole text
-pub wait_written : (run : Run) (bound : ℤ) (old mid new : Option (List ℕ)) → mid ≡ appended old (heading_text run) → IsWaitAndSee run bound → PutsBound run bound mid new →
+pub wait_written : (run : Run) (bound : ℤ) (old mid new : Option (List ℕ)) → mid ≡ appended old (heading_text run) → wait_and_see_of run ≡ Some bound → PutsBound run bound mid new →
     (text : List ℕ) × IsWaitText run text × (new ≡ appended old text)
 wait_written run bound old mid new e b (lines, h, f) = (
   heading_text run ++ concat lines,

@@ -16,6 +16,7 @@ pub mod Costs
 pub mod SmallProblems
 pub mod SmallValues
 pub mod Sums
+pub mod HavingPoints
 pub mod Loading
 pub mod DeskLaws
 pub mod Completing

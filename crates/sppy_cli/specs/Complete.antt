@@ -1,8 +1,8 @@
-use Rattle.std.specs.Prelude.{◌≡◌, ℕ, ℤ, ◌<◌, List, length, Some}
+use Rattle.std.specs.Prelude.{◌≡◌, ℕ, ◌<◌, List, length, Some}
 use Rattle.io_edge.specs.Faults.{Rises}
 use Rattle.io_edge.specs.Shelves.{FileTable}
 use Rattle.sppy_cli.specs.Desk.{HasFault, IsRunIn, branches_at, core_at, periods_at}
-use Rattle.sppy_cli.specs.Scenarios.{HasLeast, IsFirstInfeasible}
+use Rattle.sppy_cli.specs.Scenarios.{HasPoint, IsFirstInfeasible}
 use Rattle.sppy_cli.specs.Words.{Request}
 use Rattle.sppy_cli.specs.declared.core_file.Core.{Core}
 use Rattle.sppy_cli.specs.declared.run.Run.{Run}
@@ -18,7 +18,7 @@ IsCalm before after = Rises before after → ⊥
 
 -- each scenario of a run has a feasible point
 abbrev pub AllHavePoints : Run → Type 0
-AllHavePoints run = (s : ℕ) → s < length run.program.scenarios → (least : ℤ) × HasLeast run s (Some least)
+AllHavePoints run = (s : ℕ) → s < length run.program.scenarios → HasPoint run s
 
 -- the three files of a request are there, not too long, and of the small form
 pub record AreSmall (table : FileTable) (request : Request) : Type 0 where

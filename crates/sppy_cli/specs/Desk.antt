@@ -6,7 +6,7 @@ use Rattle.io_edge.specs.Shelves.{FileTable}
 use Rattle.io_edge.specs.Sinks.{appended}
 use Rattle.sppy_cli.specs.CoreFile.{core_of}
 use Rattle.sppy_cli.specs.Runs.{IsRunOf}
-use Rattle.sppy_cli.specs.Scenarios.{IsFirstInfeasible, IsWaitAndSee}
+use Rattle.sppy_cli.specs.Scenarios.{IsFirstInfeasible, wait_and_see_of}
 use Rattle.sppy_cli.specs.StochFile.{branches_of}
 use Rattle.sppy_cli.specs.Texts.{IsBoundText, heading_lines}
 use Rattle.sppy_cli.specs.TimeFile.{periods_of}
@@ -106,7 +106,7 @@ heading_text run = concat (heading_lines (heading_of run))
 pub record IsWaitText (run : Run) (text : List ℕ) : Type 0 where
   pub bound : ℤ
   pub lines : List (List ℕ)
-  pub bound_is : IsWaitAndSee run bound
+  pub bound_is : wait_and_see_of run ≡ Some bound
   pub lines_are : IsBoundText bound (unit_of run) lines
   pub text_is : text ≡ heading_text run ++ concat lines
 

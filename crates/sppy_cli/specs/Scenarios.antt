@@ -1,9 +1,9 @@
-use Rattle.std.specs.Prelude.{◌≡◌, ℕ, zero, suc, ℤ, pos, List, [], ◌∷◌, ◌==◌, ◌<◌, ◌+ℤ◌, ◌*ℤ◌, Option, Some, None, length, map, if◌then◌else◌, slice_index_or, option_map}
+use Rattle.std.specs.Prelude.{ℕ, zero, suc, ℤ, pos, List, [], ◌∷◌, ◌==◌, ◌<◌, ◌+ℤ◌, ◌*ℤ◌, Option, Some, None, length, map, if◌then◌else◌, slice_index_or, option_map, option_and_then}
 use Rattle.std.specs.List.{range_with_len}
-use Rattle.boxed_problem.specs.Optimum.{best_of}
+use Rattle.boxed_problem.specs.Data.{Problem}
+use Rattle.boxed_problem.specs.Optimum.{Feasible, best_of}
 use Rattle.boxed_problem.specs.declared.parts.Best.{Best}
 use Rattle.boxed_problem.specs.declared.parts.Limits.{Limits}
-use Rattle.boxed_problem.specs.declared.problem.Boxed.{Boxed}
 use Rattle.sppy_cli.specs.RunFacts.{side_of}
 use Rattle.sppy_cli.specs.declared.program.Change.{Change}
 use Rattle.sppy_cli.specs.declared.program.Change.TheVariants as change
@@ -42,29 +42,35 @@ abbrev pub factor_of : Run → Scenario → ℤ
 factor_of run scenario = run.options.scale *ℤ scenario.weight
 
 -- the problem of scenario s: the program's columns and entries, the scenario's limits, and the cost times scale and weight
-pub record IsProblemOf (run : Run) (s : ℕ) (problem : Boxed) : Type 0 where
-  pub columns : problem.columns ≡ map side_of run.program.columns
-  pub rows : problem.rows ≡ limits_in run.program (scenario_at run s)
-  pub entries : problem.entries ≡ run.program.entries
-  pub constant : problem.constant ≡ (factor_of run (scenario_at run s) *ℤ run.program.constant)
-  pub line : problem.line ≡ map (λ (column : Column). factor_of run (scenario_at run s) *ℤ column.cost) run.program.columns
-  pub square : problem.square ≡ map (λ (column : Column). pos 0) run.program.columns
+abbrev pub problem_in : Run → ℕ → Problem
+problem_in run s = record {
+  columns = map side_of run.program.columns;
+  rows = limits_in run.program (scenario_at run s);
+  entries = run.program.entries;
+  constant = factor_of run (scenario_at run s) *ℤ run.program.constant;
+  line = map (λ (column : Column). factor_of run (scenario_at run s) *ℤ column.cost) run.program.columns;
+  square = map (λ (column : Column). pos 0) run.program.columns;
+}
 
--- the least value of a scenario's problem; none where it has no feasible point
-abbrev pub HasLeast : Run → ℕ → Option ℤ → Type 0
-HasLeast run s least = (problem : Boxed) × IsProblemOf run s problem × (option_map (λ (best : Best). best.value) (best_of problem) ≡ least)
+-- the least value of scenario s; none where it has no feasible point
+abbrev pub least_of : Run → ℕ → Option ℤ
+least_of run s = option_map (λ (best : Best). best.value) (best_of (problem_in run s))
 
--- the least values of the scenarios before n have this sum
-abbrev pub HasSum : Run → ℕ → ℤ → Type 0
-HasSum run zero sum = sum ≡ pos 0
-HasSum run (suc n) sum = (before : ℤ) × (least : ℤ) × HasSum run n before × HasLeast run n (Some least) × (sum ≡ (before +ℤ least))
+-- the sum of the least values of the scenarios before n; none where one of them has none
+abbrev pub leasts_before : Run → ℕ → Option ℤ
+leasts_before run zero = Some (pos 0)
+leasts_before run (suc n) = option_and_then (λ sum. option_map (λ least. sum +ℤ least) (least_of run n)) (leasts_before run n)
 
 -- the wait-and-see bound: the sum of the least values of all scenarios
-abbrev pub IsWaitAndSee : Run → ℤ → Type 0
-IsWaitAndSee run bound = HasSum run (length run.program.scenarios) bound
+abbrev pub wait_and_see_of : Run → Option ℤ
+wait_and_see_of run = leasts_before run (length run.program.scenarios)
+
+-- a scenario has a feasible point
+abbrev pub HasPoint : Run → ℕ → Type 0
+HasPoint run s = (x : List ℤ) × Feasible (problem_in run s) x
 
 -- scenario s is the first one without a feasible point
 pub record IsFirstInfeasible (run : Run) (s : ℕ) : Type 0 where
   pub there : s < length run.program.scenarios
-  pub none : HasLeast run s None
-  pub before : (t : ℕ) → t < s → (least : ℤ) × HasLeast run t (Some least)
+  pub none : HasPoint run s → ⊥
+  pub before : (t : ℕ) → t < s → HasPoint run t

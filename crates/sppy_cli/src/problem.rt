@@ -1,7 +1,8 @@
 ghost use Rattle.std.specs.Prelude.{◌≡◌, ◌<◌, ◌≤◌, ◌*ℤ◌, ◌≤ℤ◌, pos, IfOk, length, map, slice_index_or, unsigned_abs};
 ghost use Rattle.std.specs.List.{All, range_with_len};
+ghost use Rattle.boxed_problem.specs.Data.{problem_of};
 ghost use Rattle.sppy_cli.specs.RunFacts.{IsSmallColumn, side_of};
-ghost use Rattle.sppy_cli.specs.Scenarios.{IsProblemOf, changed_by, limits_of, no_row};
+ghost use Rattle.sppy_cli.specs.Scenarios.{changed_by, limits_of, no_row, problem_in};
 
 use crate::program::{Change, Column, Row, Scenario};
 use crate::run::Run;
@@ -110,7 +111,7 @@ impl Run {
     /// times the scale and its weight.
     pub fn scenario(&self, alloc: Global, s: u32) -> Result<Boxed, AllocError>
         requires { s < length self.now.program.scenarios }
-        ensures { IfOk result (λ problem. IsProblemOf self.now s problem) }
+        ensures { IfOk result (λ problem. problem_of problem ≡ problem_in self.now s) }
     {
         let program = &self.program;
         let scenario = &program.scenarios.as_slice()[s as usize];

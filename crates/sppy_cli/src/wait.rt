@@ -1,5 +1,5 @@
 ghost use Rattle.std.specs.Prelude.{◌≡◌, ◌<◌, ◌≤◌, ◌^◌, length, IfOk, IfSome, unsigned_abs};
-ghost use Rattle.sppy_cli.specs.Scenarios.{HasLeast};
+ghost use Rattle.sppy_cli.specs.Scenarios.{least_of};
 ghost use Rattle.sppy_cli.specs.WaitAnswers.{WaitAnswers};
 
 use crate::run::Run;
@@ -17,7 +17,7 @@ pub enum WaitFault {
 // The least value of a scenario's problem; None where it has no feasible point.
 fn least(alloc: Global, run: &Run, s: u32) -> Result<Option<i128>, AllocError>
     requires { s < length run.now.program.scenarios }
-    ensures least { IfOk result (HasLeast run.now s) }
+    ensures least { IfOk result (λ least. least ≡ least_of run.now s) }
     ensures small { IfOk result (λ least. IfSome least (λ value. unsigned_abs value ≤ 2 ^ 64)) }
 {
     let problem = run.scenario(alloc, s)?;

@@ -1,5 +1,6 @@
 use Rattle.std.proofs.Common.{arith, ap, sym, ◌∙◌, ◌≡◌, Some, None, length, ◌≤ℤ◌}
 use Rattle.std.proofs.lemmas.List.Elements.{recursion_from_All}
+use Rattle.boxed_problem.specs.Data.{problem_of}
 use Rattle.boxed_problem.specs.Sides.{corner}
 use Rattle.boxed_problem.specs.Odometer.{next_point, points_from}
 use Rattle.boxed_problem.specs.Optimum.{better}
@@ -16,7 +17,7 @@ points-init c =
     let first : c.in_ok-point.point ≡ corner b.columns = rw c.as_slice.ensures at c.in_ok-point.ensures in
     rw first (record {
       on = corner_on b.columns filled;
-      rest = ap (λ ps. best_after b None ps) (points_from-corner b.columns filled) ∙ best_of-is b;
+      rest = ap (λ ps. best_after (problem_of b) None ps) (points_from-corner b.columns filled) ∙ best_of-is (problem_of b);
     })
 
 pub consider-requires : goal.consider-requires
@@ -26,11 +27,11 @@ pub returns-then-not-step : goal.returns-then-not-step
 returns-then-not-step c =
     let b = c.args.problem.now in
     let filled = recursion_from_All (λ (s : Side). s.lower ≤ℤ s.upper) b.columns b.facts.filled in
-    let taken : c.consider.new.best ≡ better b c.points.best c.points.point = c.in_ok-consider.ensures in
+    let taken : c.consider.new.best ≡ better (problem_of b) c.points.best c.points.point = c.in_ok-consider.ensures in
     let none : next_point b.columns c.points.point ≡ None = rw c.as_slice-in-points.ensures at (c.step.ensures.last c.if-not-step.true) in
     let last = points_from-last b.columns c.points.point filled c.points.invariant.on none in
-    let best = taken ∙ (sym (ap (λ ps. best_after b c.points.best ps) last) ∙ c.points.invariant.rest) in
-    record { best = best; meaning = best_is b c.consider.new.best best }
+    let best = taken ∙ (sym (ap (λ ps. best_after (problem_of b) c.points.best ps) last) ∙ c.points.invariant.rest) in
+    record { best = best; meaning = best_is (problem_of b) c.consider.new.best filled best }
 
 pub points-smaller : goal.points-smaller
 points-smaller c =
@@ -44,10 +45,10 @@ pub points-preserved : goal.points-preserved
 points-preserved c =
     let b = c.args.problem.now in
     let filled = recursion_from_All (λ (s : Side). s.lower ≤ℤ s.upper) b.columns b.facts.filled in
-    let taken : c.consider.new.best ≡ better b c.points.best c.points.point = c.in_ok-consider.ensures in
+    let taken : c.consider.new.best ≡ better (problem_of b) c.points.best c.points.point = c.in_ok-consider.ensures in
     let some : next_point b.columns c.points.point ≡ Some c.step.new.point = rw c.as_slice-in-points.ensures at (c.step.ensures.next c.if-not-step.false) in
     let next = points_from-next b.columns c.points.point c.step.new.point filled c.points.invariant.on some in
     record {
       on = next_point-on b.columns c.points.point c.step.new.point filled c.points.invariant.on some;
-      rest = ap (λ m. best_after b m (points_from b.columns c.step.new.point)) taken ∙ (sym (ap (λ ps. best_after b c.points.best ps) next) ∙ c.points.invariant.rest);
+      rest = ap (λ m. best_after (problem_of b) m (points_from b.columns c.step.new.point)) taken ∙ (sym (ap (λ ps. best_after (problem_of b) c.points.best ps) next) ∙ c.points.invariant.rest);
     }

@@ -1,4 +1,5 @@
 use Rattle.std.proofs.Common.{arith, refl, ap, sym, ◌∙◌, ◌≡◌, ◌++◌, ◌∷◌, [], Some, None}
+use Rattle.boxed_problem.specs.Data.{problem_of}
 use Rattle.boxed_problem.specs.Sides.{Within}
 use Rattle.boxed_problem.proofs.Lying.{within_self}
 use Rattle.boxed_problem.proofs.Optimal.{best_is, filled_of}
@@ -18,7 +19,7 @@ returns-then-opened-budget c =
     let b = c.args.problem.now in
     let popped : c.loop-sides.stack ≡ c.pop.new.self ++ c.in-Some.sides ∷ [] = c.in-Some.ensures in
     let rest = rw popped at c.loop-sides.invariant.search in
-    let more = budget_spent b c.pop.new.self c.in-Some.sides c.loop-sides.best c.loop-sides.opened rest in
+    let more = budget_spent (problem_of b) c.pop.new.self c.in-Some.sides c.loop-sides.best c.loop-sides.opened rest in
     (c.if-opened-budget.true, omega (arith, more))
 
 pub open-requires-clause-sides : goal.open-requires-clause-sides
@@ -40,7 +41,7 @@ loop-sides-preserved c =
       boxes = c.in-Ok-open.ensures.stack;
       count = omega arith;
       search = c.in-Ok-open.ensures.search c.loop-sides.opened
-          ∙ (sym (search_all-push b c.pop.new.self c.in-Some.sides (record { best = c.loop-sides.best; opened = c.loop-sides.opened })) ∙ rest);
+          ∙ (sym (search_all-push (problem_of b) c.pop.new.self c.in-Some.sides (record { best = c.loop-sides.best; opened = c.loop-sides.opened })) ∙ rest);
     }
 
 pub returns-in-Some-best : goal.returns-in-Some-best
@@ -48,13 +49,13 @@ returns-in-Some-best c =
     let b = c.args.problem.now in
     let empty : c.loop-sides.stack ≡ [] = c.in_default-pop.ensures.0 in
     let end = rw (empty, c.in-Some-best.is) at c.loop-sides.invariant.search in
-    let done = search_done b (Some c.in-Some-best.best) c.loop-sides.opened end in
-    (done, best_is b (Some c.in-Some-best.best) (sym done))
+    let done = search_done (problem_of b) (Some c.in-Some-best.best) c.loop-sides.opened (filled_of b) end in
+    (done, best_is (problem_of b) (Some c.in-Some-best.best) (filled_of b) (sym done))
 
 pub returns : goal.returns
 returns c =
     let b = c.args.problem.now in
     let empty : c.loop-sides.stack ≡ [] = c.in_default-pop.ensures.0 in
     let end = rw (empty, c.in-None.is) at c.loop-sides.invariant.search in
-    let done = search_done b None c.loop-sides.opened end in
-    (done, best_is b None (sym done))
+    let done = search_done (problem_of b) None c.loop-sides.opened (filled_of b) end in
+    (done, best_is (problem_of b) None (filled_of b) (sym done))

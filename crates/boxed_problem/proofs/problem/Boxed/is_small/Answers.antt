@@ -1,6 +1,7 @@
 use Rattle.std.proofs.Common.{arith, ap, ◌∙◌, ◌≡◌, suc, ◌+◌, ◌*◌, ◌≤◌, length, FitsSigned, unsigned_abs, rules}
 use Rattle.std.proofs.lemmas.Int.{to_z-of_z}
 use Rattle.std.specs.Int.{w128}
+use Rattle.boxed_problem.specs.Data.{problem_of}
 use Rattle.boxed_problem.specs.Facts.{row_size}
 use Rattle.boxed_problem.specs.PriceFit.{price_part}
 use Rattle.boxed_problem.specs.Sums.{number_at, size_below}
@@ -11,7 +12,7 @@ pub returns-in_default-add_product-2 : goal.returns-in_default-add_product-2
 returns-in_default-add_product-2 c =
     let b = c.args.self.now in
     let i = c.loop-i.i in
-    let g = price_part b c.args.prices.now in
+    let g = price_part (problem_of b) c.args.prices.now in
     let upto : size_below i g + g i ≤ size_below (length b.rows) g = size_below-le (suc i) (length b.rows) g (omega (arith, ap length c.as_slice-rows.ensures)) in
     let fv : FitsSigned w128 (number_at c.as_slice-values.result.now i) = search rules in
     let price : c.unsigned_abs-in-loop-i.result ≡ unsigned_abs (number_at c.args.prices.now.values i) = rw c.as_slice-values.ensures at (simp to_z-of_z at c.unsigned_abs-in-loop-i.ensures.value) in

@@ -3,8 +3,9 @@ use Rattle.std.proofs.lemmas.Int.{to_z-of_z}
 use Rattle.std.proofs.lemmas.List.{get_or_read}
 use Rattle.std.specs.Int.{w128}
 use Rattle.std.specs.List.{range_with_len}
+use Rattle.boxed_problem.proofs.SameData.{same_data}
 use Rattle.sppy_cli.specs.RunFacts.{IsSmallScenario}
-use Rattle.sppy_cli.specs.Scenarios.{factor_of, limits_in, limits_of, no_row, no_scenario, scenario_at}
+use Rattle.sppy_cli.specs.Scenarios.{factor_of, limits_in, limits_of, no_row, no_scenario, problem_in, scenario_at}
 use Rattle.sppy_cli.specs.declared.program.Column.{Column}
 use Rattle.sppy_cli.proofs.Costs.{constant_fits, factor_fits, factor_small}
 use Rattle.sppy_cli.proofs.SmallProblems.{boxed_is}
@@ -58,11 +59,6 @@ returns c =
     let rows : c.in_ok-rows.rows ≡ limits_in run.program own =
     c.in_ok-rows.ensures ∙ ap (λ changes. map (λ i. limits_of changes (slice_index_or run.program.rows i no_row) i) (range_with_len 0 (length run.program.rows))) c.as_slice-2.ensures in
     let line = simp to_z-of_z at c.in_ok-line.ensures in
-    record {
-      columns = c.in_ok-columns.ensures;
-      rows = rows ∙ ap (limits_in run.program) is;
-      entries = c.in_ok-entries.ensures;
-      constant = simp to_z-of_z (ap (λ scenario. factor_of run scenario *ℤ run.program.constant) is);
-      line = line ∙ ap (λ scenario. map (λ (column : Column). factor_of run scenario *ℤ column.cost) run.program.columns) is;
-      square = c.in_ok-square.ensures;
-    }
+    let constant = ap (λ scenario. factor_of run scenario *ℤ run.program.constant) is in
+    let costs = line ∙ ap (λ scenario. map (λ (column : Column). factor_of run scenario *ℤ column.cost) run.program.columns) is in
+    simp to_z-of_z (same_data _ (problem_in run c.args.s) c.in_ok-columns.ensures (rows ∙ ap (limits_in run.program) is) c.in_ok-entries.ensures constant costs c.in_ok-square.ensures)
