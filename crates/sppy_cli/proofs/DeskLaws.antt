@@ -1,4 +1,4 @@
-use Rattle.std.proofs.Common.{◌≡◌, ℤ, List, ℕ, [], ◌++◌, Option, Some, None, Ok, Err, refl, sym, subst}
+use Rattle.std.proofs.Common.{◌≡◌, ◌∙◌, ℤ, List, ℕ, [], ◌∷◌, ◌++◌, length, take, Option, Some, None, Ok, Err, refl, sym, ap, subst}
 use Rattle.std.specs.Prelude.{IfSome}
 use Rattle.std.specs.List.{concat}
 use Rattle.std.specs.Option.{option_map_or}
@@ -6,7 +6,7 @@ use Rattle.io_edge.proofs.Writing.{appended-nothing, appended_twice}
 use Rattle.io_edge.specs.Shelves.{FileTable}
 use Rattle.io_edge.specs.Sinks.{appended}
 use Rattle.sppy_cli.specs.Answers.{LoadsRun, PutsBound, WritesWait, status_of_failure, status_of_put}
-use Rattle.sppy_cli.specs.Desk.{Answers, Appends, GainsFront, IsRunIn, IsWaitText, Writes, heading_text, names_of, with_names}
+use Rattle.sppy_cli.specs.Desk.{Answers, Appends, GainsFront, IsRunIn, IsWaitText, LoadsNames, Writes, heading_text, names_of, with_names}
 use Rattle.sppy_cli.specs.Scenarios.{wait_and_see_of}
 use Rattle.sppy_cli.specs.Words.{Request}
 use Rattle.sppy_cli.specs.declared.puts.PutFailure.{PutFailure}
@@ -77,6 +77,35 @@ nothing_by failure.Memory old = appends_nothing old
 pub writes_nothing : (f : RunFailure) (old : Option (List ℕ)) (s : Status) → s ≡ status_of_failure f → Writes old old s
 writes_nothing f old s is = subst (λ t. Writes old old t) (sym is) (nothing_by f old)
 
+names_by_run : (run : Run) (names : List (List ℕ)) (old new : Option (List ℕ)) (before after : Option (List (List ℕ))) (s : Status) → length names ≡ 3 → WritesWait run old new s → after ≡ with_names before names → LoadsNames before after names s
+names_by_run run names old new before after status.Done long wrote e = e
+names_by_run run names old new before after (status.Infeasible scenario) long wrote e = e
+names_by_run run names old new before after (status.WriteFault faults) long wrote e = e
+names_by_run run names old new before after status.Memory long wrote e = (3, e ∙ ap (with_names before) (sym (whole names long)))
+  where
+    whole : (names : List (List ℕ)) → length names ≡ 3 → take 3 names ≡ names
+    whole (a ∷ b ∷ d ∷ []) e = refl
+    whole (a ∷ b ∷ d ∷ f ∷ names) e = absurd cc
+    whole (a ∷ b ∷ []) e = absurd cc
+    whole (a ∷ []) e = absurd cc
+    whole [] e = absurd cc
+names_by_run run names old new before after status.Words long wrote e = absurd wrote
+names_by_run run names old new before after (status.Input fault) long wrote e = absurd wrote
+names_by_run run names old new before after (status.ReadFault faults) long wrote e = absurd wrote
+
 -- all names of the command were loaded
-pub names_from_run : (asked : Option Request) (request : Request) (old new : Option (List (List ℕ))) → asked ≡ Some request → new ≡ with_names old (names_of request) → GainsFront old new (option_map_or names_of asked [])
-names_from_run asked request old new e f = subst (λ (o : Option Request). GainsFront old new (option_map_or names_of o [])) (sym e) (3, f)
+pub names_from_run : (asked : Option Request) (request : Request) (run : Run) (old new : Option (List ℕ)) (before after : Option (List (List ℕ))) (s : Status) → asked ≡ Some request → WritesWait run old new s → after ≡ with_names before (names_of request) →
+    LoadsNames before after (option_map_or names_of asked []) s
+names_from_run asked request run old new before after s e wrote f =
+    subst (λ (o : Option Request). LoadsNames before after (option_map_or names_of o []) s) (sym e) (names_by_run run (names_of request) old new before after s refl wrote f)
+
+names_by_failure : (f : RunFailure) (names : List (List ℕ)) (before after : Option (List (List ℕ))) → GainsFront before after names → LoadsNames before after names (status_of_failure f)
+names_by_failure (failure.Input fault) names before after gains = gains
+names_by_failure (failure.Failed faults) names before after gains = gains
+names_by_failure failure.Memory names before after gains = gains
+
+-- a front of the names was loaded
+pub names_from_failure : (asked : Option Request) (request : Request) (f : RunFailure) (before after : Option (List (List ℕ))) (s : Status) → asked ≡ Some request → GainsFront before after (names_of request) → s ≡ status_of_failure f →
+    LoadsNames before after (option_map_or names_of asked []) s
+names_from_failure asked request f before after s e gains is =
+    subst (λ (o : Option Request). LoadsNames before after (option_map_or names_of o []) s) (sym e) (subst (LoadsNames before after (names_of request)) (sym is) (names_by_failure f (names_of request) before after gains))

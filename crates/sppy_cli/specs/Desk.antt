@@ -83,6 +83,16 @@ with_names names more = option_map (λ known. known ++ more) names
 abbrev pub GainsFront : Option (List (List ℕ)) → Option (List (List ℕ)) → List (List ℕ) → Type 0
 GainsFront old new names = (n : ℕ) × (new ≡ with_names old (take n names))
 
+-- the names that were loaded, by the status: none where the words aren't well formed, all of them where there is a run, else a front
+abbrev pub LoadsNames : Option (List (List ℕ)) → Option (List (List ℕ)) → List (List ℕ) → Status → Type 0
+LoadsNames old new names status.Words = new ≡ old
+LoadsNames old new names status.Done = new ≡ with_names old names
+LoadsNames old new names (status.Infeasible scenario) = new ≡ with_names old names
+LoadsNames old new names (status.WriteFault faults) = new ≡ with_names old names
+LoadsNames old new names (status.Input fault) = GainsFront old new names
+LoadsNames old new names (status.ReadFault faults) = GainsFront old new names
+LoadsNames old new names status.Memory = GainsFront old new names
+
 -- one over this number is the unit in which bounds are whole numbers
 abbrev pub unit_of : Run → ℤ
 unit_of run = (run.options.scale *ℤ run.total) *ℤ run.program.cost_scale

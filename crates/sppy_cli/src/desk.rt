@@ -1,7 +1,7 @@
 ghost use Rattle.std.specs.Prelude.{◌≡◌, ◌↔◌, None, IfSome, map, string_bytes};
 ghost use Rattle.sppy_cli.specs.Answers.{WritesWait, names_asked};
 ghost use Rattle.sppy_cli.specs.Complete.{IsComplete, Refuses};
-ghost use Rattle.sppy_cli.specs.Desk.{Answers, CountsReads, CountsWrites, GainsFront, Writes};
+ghost use Rattle.sppy_cli.specs.Desk.{Answers, CountsReads, CountsWrites, LoadsNames, Writes};
 ghost use Rattle.sppy_cli.specs.Words.{command_of};
 
 use crate::puts::{put_bound, put_heading};
@@ -59,8 +59,8 @@ pub fn desk<S: Shelf, K: Sink>(
     ensures reads { CountsReads (S.count shelf.old) (S.count shelf.new) result }
     ensures writes { CountsWrites (K.count out.old) (K.count out.new) result }
 
-    // nothing is loaded but the command's files, in order, and nothing is stored
-    ensures names { GainsFront (S.names shelf.old) (S.names shelf.new) (names_asked (map string_bytes words.now)) }
+    // nothing is loaded but the command's files, in order, and all of them where there is a run; nothing is stored
+    ensures names { LoadsNames (S.names shelf.old) (S.names shelf.new) (names_asked (map string_bytes words.now)) result }
     ensures files { S.files shelf.new ≡ S.files shelf.old }
 {
     let Some(command) = read_words(words) else {

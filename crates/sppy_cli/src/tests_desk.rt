@@ -122,7 +122,7 @@ fn failed(
     Ok((status, written))
 }
 
-// Each call of the shelf and of the sink would fail, so none was made.
+// The first call of the shelf and of the sink would fail, so none was made.
 #[test]
 fn refuses_words(rt: HostRuntime) -> Result<(), Fail> {
     let alloc = rt.alloc();

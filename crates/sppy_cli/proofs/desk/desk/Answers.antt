@@ -1,6 +1,6 @@
 use Rattle.std.proofs.Common.{sym}
 use Rattle.sppy_cli.specs.Words.{request_of}
-use Rattle.sppy_cli.proofs.DeskLaws.{answers_from_run, answers_from_failure, writes_nothing, names_from_run}
+use Rattle.sppy_cli.proofs.DeskLaws.{answers_from_run, answers_from_failure, writes_nothing, names_from_run, names_from_failure}
 use Rattle.sppy_cli.proofs.Completing.{completes, refuses, reads_kept, reads_failed, writes_kept}
 use Rattle.sppy_cli.proofs.desk.desk.Goals as goal
 
@@ -10,7 +10,11 @@ returns-in-Ok-clause-answers g c =
 
 pub returns-in-Ok-clause-names : goal.returns-in-Ok-clause-names
 returns-in-Ok-clause-names g c =
-    names_from_run _ (request_of c.in-Some.command) (g.S.Shelf.names c.args.shelf.now) (g.S.Shelf.names c.load_run.new.shelf) (sym c.in-Some.ensures.value) c.in-Ok.ensures.names
+    names_from_run _ (request_of c.in-Some.command) c.in-Ok.run' (g.K.Sink.written c.args.out.now) (g.K.Sink.written c.write_wait.new.out) (g.S.Shelf.names c.args.shelf.now) (g.S.Shelf.names c.load_run.new.shelf) c.write_wait.result (sym c.in-Some.ensures.value) c.write_wait.ensures.written c.in-Ok.ensures.names
+
+pub returns-in-Err-clause-names : goal.returns-in-Err-clause-names
+returns-in-Err-clause-names g c =
+    names_from_failure _ (request_of c.in-Some.command) c.in-Err.failure (g.S.Shelf.names c.args.shelf.now) (g.S.Shelf.names c.load_run.new.shelf) c.status.result (sym c.in-Some.ensures.value) c.in-Err.ensures.names c.status.ensures
 
 pub returns-in-Err-clause-answers : goal.returns-in-Err-clause-answers
 returns-in-Err-clause-answers g c =
