@@ -3,7 +3,7 @@ use Rattle.std.proofs.lemmas.Int.{ints}
 use Rattle.std.specs.List.{All}
 use Rattle.boxed_problem.specs.Facts.{IsBoxed, column_size}
 use Rattle.boxed_problem.specs.Sides.{Filled, Within, side_at}
-use Rattle.boxed_problem.specs.Sums.{size_below}
+use Rattle.base_words.specs.Sums.{size_below}
 use Rattle.boxed_problem.specs.declared.parts.Entry.{Entry}
 use Rattle.boxed_problem.specs.declared.parts.Limits.{Limits}
 use Rattle.boxed_problem.specs.declared.parts.Side.{Side}

@@ -10,7 +10,7 @@ use Rattle.boxed_problem.specs.Points.{box_points, count_to, run_from, side_valu
 use Rattle.boxed_problem.specs.Sides.{Filled, corner, side_at}
 use Rattle.boxed_problem.specs.declared.parts.Side.{Side}
 use Rattle.boxed_problem.proofs.Listing.{count_is}
-use Rattle.boxed_problem.proofs.Comparisons.{above_from_test, below_from_test}
+use Rattle.base_words.proofs.Comparisons.{above_from_test, below_from_test}
 
 -- a box is cut in two at its first column that isn't single
 pub data Cut : List Side → List Side → List Side → Type 0 where

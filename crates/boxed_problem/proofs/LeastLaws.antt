@@ -8,14 +8,16 @@ use Rattle.boxed_problem.specs.Leasts.{IsLeastAt, least_on, least_part, least_va
 use Rattle.boxed_problem.specs.Objective.{curve, value_of, value_part}
 use Rattle.boxed_problem.specs.Points.{run_from, side_count, side_values}
 use Rattle.boxed_problem.specs.Sides.{Within, corner, reach, side_at}
-use Rattle.boxed_problem.specs.Sums.{number_at, size_below, sum_below}
+use Rattle.base_words.specs.Sums.{number_at, size_below, sum_below}
 use Rattle.boxed_problem.specs.declared.parts.Side.{Side}
 use Rattle.boxed_problem.specs.Data.{Problem}
 use Rattle.boxed_problem.proofs.Halving.{Single, single_at}
 use Rattle.boxed_problem.proofs.Listing.{count_is}
 use Rattle.boxed_problem.proofs.Lying.{Lies, corner_at, filled_at, within_reach}
-use Rattle.boxed_problem.proofs.Magnitudes.{abs-add, abs-curve, abs_between, curve_size, fits_from_abs, size_below-le, sum_below-abs}
-use Rattle.boxed_problem.proofs.Comparisons.{above_from_test, below_from_test}
+use Rattle.base_words.proofs.Magnitudes.{abs-add, abs_between, fits_from_abs}
+use Rattle.base_words.proofs.SumBounds.{size_below-le, sum_below-abs}
+use Rattle.boxed_problem.proofs.Magnitudes.{abs-curve, curve_size}
+use Rattle.base_words.proofs.Comparisons.{above_from_test, below_from_test}
 
 -- what holds at each of n numbers from a on holds of all of them
 run_all : (P : ℤ → Type 0) (f : ℤ → ℤ) (n : ℕ) (a : ℤ) → ((x : ℤ) → a ≤ℤ x → x <ℤ (a +ℤ pos n) → P (f x)) → AllByRecursion P (map f (run_from a n))

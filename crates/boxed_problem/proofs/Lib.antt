@@ -2,14 +2,12 @@ pub mod Magnitudes
 pub mod Listing
 pub mod Stepping
 pub mod Least
-pub mod Comparisons
 pub mod RowTests
 pub mod SameData
 pub mod Members
 pub mod Ordered
 pub mod Optimal
 pub mod PointCounts
-pub mod Products
 pub mod FixingLaws
 pub mod Halving
 pub mod Lying

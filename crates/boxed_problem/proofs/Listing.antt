@@ -5,7 +5,7 @@ use Rattle.boxed_problem.specs.Sides.{Filled, corner, Filled, corner}
 use Rattle.boxed_problem.specs.Odometer.{OnSides, next_with, next_point, points_above, points_from, points_after}
 use Rattle.boxed_problem.specs.Points.{InBox, box_points, run_from, count_to}
 use Rattle.boxed_problem.specs.Sides.{side_at}
-use Rattle.boxed_problem.specs.Sums.{number_at}
+use Rattle.base_words.specs.Sums.{number_at}
 use Rattle.boxed_problem.specs.declared.parts.Side.{Side}
 
 -- how many whole numbers lie from a to a + z

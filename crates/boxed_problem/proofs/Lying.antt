@@ -3,10 +3,10 @@ use Rattle.std.proofs.lemmas.Int.{ints}
 use Rattle.boxed_problem.specs.Odometer.{OnSides}
 use Rattle.boxed_problem.specs.Halves.{high_half, low_half}
 use Rattle.boxed_problem.proofs.Halving.{Cut, here, after, filled_cut, middle_within}
-use Rattle.boxed_problem.proofs.Magnitudes.{abs_between}
+use Rattle.base_words.proofs.Magnitudes.{abs_between}
 use Rattle.boxed_problem.specs.Points.{InBox}
 use Rattle.boxed_problem.specs.Sides.{Filled, Within, corner, no_side, reach, side_at}
-use Rattle.boxed_problem.specs.Sums.{number_at}
+use Rattle.base_words.specs.Sums.{number_at}
 use Rattle.boxed_problem.specs.declared.parts.Side.{Side}
 
 -- each value lies on its side; past the ends both are 0

@@ -6,7 +6,7 @@ use Rattle.boxed_problem.specs.Odometer.{OnSides}
 use Rattle.boxed_problem.specs.Points.{box_points, run_from, side_count}
 use Rattle.boxed_problem.specs.declared.parts.Side.{Side}
 use Rattle.boxed_problem.proofs.Listing.{count_is}
-use Rattle.boxed_problem.proofs.Comparisons.{below_from_test, above_from_test}
+use Rattle.base_words.proofs.Comparisons.{below_from_test, above_from_test}
 
 -- the point stands in the list
 abbrev pub Member : List ℤ → List (List ℤ) → Type 0

@@ -14,7 +14,7 @@ use Rattle.boxed_problem.proofs.Listing.{in_on, on_in}
 use Rattle.boxed_problem.proofs.Members.{Member, filter_member, listed_on, member_all, member_filter, point_listed}
 use Rattle.boxed_problem.proofs.Ordered.{Ascending, compared, filter_ascends, points_ascend, precedes_not_both}
 use Rattle.boxed_problem.proofs.RowTests.{feasible_from, feasible_meets}
-use Rattle.boxed_problem.proofs.Comparisons.{below_from_test, above_from_test}
+use Rattle.base_words.proofs.Comparisons.{below_from_test, above_from_test}
 
 -- the first least point of a list in order, in plain words
 pub record IsLeastIn (b : Problem) (xs : List (List ℤ)) (best : Best) : Type 0 where

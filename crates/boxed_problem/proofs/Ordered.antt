@@ -4,7 +4,7 @@ use Rattle.std.specs.List.{AllByRecursion, filter, flat_map}
 use Rattle.boxed_problem.specs.Optimum.{Precedes}
 use Rattle.boxed_problem.specs.Points.{box_points, run_from, side_count}
 use Rattle.boxed_problem.specs.declared.parts.Side.{Side}
-use Rattle.boxed_problem.proofs.Comparisons.{below_from_test, above_from_test}
+use Rattle.base_words.proofs.Comparisons.{below_from_test, above_from_test}
 use Rattle.boxed_problem.proofs.Members.{all_append, all_map, all_members, filter_member, member_all}
 
 -- no point precedes one that precedes it

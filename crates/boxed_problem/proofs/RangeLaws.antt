@@ -8,14 +8,14 @@ use Rattle.boxed_problem.specs.Facts.{entry_size, limits_at}
 use Rattle.boxed_problem.specs.Ranges.{high_activity, high_part, low_activity, low_part, misses, misses_one}
 use Rattle.boxed_problem.specs.Rows.{activity, activity_part, is_above, is_below, meets, meets_rows}
 use Rattle.boxed_problem.specs.Sides.{Within, reach, side_at}
-use Rattle.boxed_problem.specs.Sums.{number_at}
+use Rattle.base_words.specs.Sums.{number_at}
 use Rattle.boxed_problem.specs.declared.parts.Entry.{Entry}
 use Rattle.boxed_problem.specs.declared.parts.Limits.{Limits}
 use Rattle.boxed_problem.specs.declared.parts.Side.{Side}
 use Rattle.boxed_problem.proofs.Halving.{Single, single_at}
 use Rattle.boxed_problem.proofs.Lying.{Lies, within_reach}
-use Rattle.boxed_problem.proofs.Products.{times_between}
-use Rattle.boxed_problem.proofs.Comparisons.{both, both_left, both_right, most_from_test, test_from_most}
+use Rattle.base_words.proofs.Products.{times_between}
+use Rattle.base_words.proofs.Comparisons.{both, both_left, both_right, most_from_test, test_from_most}
 
 -- sums of parts in order are in order
 pub fold_order : {E : Type 0} (f g : E → ℤ) → ((e : E) → f e ≤ℤ g e) → (a b : ℤ) (es : List E) → a ≤ℤ b → fold (λ s e. s +ℤ f e) a es ≤ℤ fold (λ s e. s +ℤ g e) b es

@@ -6,7 +6,7 @@ use Rattle.boxed_problem.specs.Rows.{activity, meets, meets_rows}
 use Rattle.boxed_problem.specs.declared.parts.Limits.{Limits}
 use Rattle.boxed_problem.specs.declared.parts.Entry.{Entry}
 use Rattle.boxed_problem.specs.Data.{Problem}
-use Rattle.boxed_problem.proofs.Comparisons.{both, both_left, both_right}
+use Rattle.base_words.proofs.Comparisons.{both, both_left, both_right}
 
 -- what holds of all rows holds of each
 pub row_met : (n : ℕ) (rows : List Limits) (entries : List Entry) (x : List ℤ) (i : ℕ) → meets_rows n rows entries x ≡ true → i < n → meets (limits_at rows i) (activity entries x i) ≡ true

@@ -21,7 +21,7 @@ use Rattle.boxed_problem.proofs.Listing.{corner_on}
 use Rattle.boxed_problem.proofs.Lying.{Lies, on_lies}
 use Rattle.boxed_problem.proofs.Members.{listed_on}
 use Rattle.boxed_problem.proofs.RangeLaws.{either_left, either_right, rows_not_missed, single_met}
-use Rattle.boxed_problem.proofs.Comparisons.{above_from_test, test_from_above}
+use Rattle.base_words.proofs.Comparisons.{above_from_test, test_from_above}
 
 -- two searches that agree on the halves go on alike
 go_on-same : (f g : List Side → Progress → Progress) (b : Problem) (box : List Side) (o : Option Halves) (p : Progress) →

@@ -2,7 +2,7 @@ use Rattle.std.proofs.Common.{arith, refl, ap, sym, ◌∙◌, ◌≡◌, ℕ, z
 use Rattle.std.proofs.lemmas.Int.{ints}
 use Rattle.boxed_problem.specs.Odometer.{OnSides, next_with, next_point, WrappedFrom}
 use Rattle.boxed_problem.specs.Sides.{side_at, corner}
-use Rattle.boxed_problem.specs.Sums.{number_at}
+use Rattle.base_words.specs.Sums.{number_at}
 use Rattle.boxed_problem.specs.declared.parts.Side.{Side}
 
 next_with-last : (s : Side) (ss : List Side) (v : ℤ) (o : Option (List ℤ)) → o ≡ None → s.upper ≤ℤ v → next_with s ss v o ≡ None

@@ -7,8 +7,8 @@ use Rattle.boxed_problem.specs.Leasts.{IsLeastAt, IsNearest, IsVertex}
 use Rattle.boxed_problem.specs.Objective.{curve}
 use Rattle.boxed_problem.specs.Sides.{reach}
 use Rattle.boxed_problem.specs.declared.parts.Side.{Side}
-use Rattle.boxed_problem.proofs.Products.{square_next, times_one, times_order, times_sum, times_turn, zero_times}
-use Rattle.boxed_problem.proofs.Comparisons.{above_from_test, below_from_test}
+use Rattle.base_words.proofs.Products.{square_next, times_one, times_order, times_sum, times_turn, zero_times}
+use Rattle.base_words.proofs.Comparisons.{above_from_test, below_from_test}
 
 -- what one step to the right adds
 pub curve_next : (line square x : ℤ) → curve line square (x +ℤ pos 1) ≡ (curve line square x +ℤ ((((square *ℤ x) +ℤ (square *ℤ x)) +ℤ square) +ℤ line))

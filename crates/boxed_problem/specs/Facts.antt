@@ -1,7 +1,7 @@
 use Rattle.std.specs.Prelude.{◌≡◌, ℕ, ◌+◌, ◌*◌, ◌^◌, ◌<◌, ◌≤◌, ◌==◌, max, List, length, ℤ, pos, ◌≤ℤ◌, unsigned_abs, slice_index_or, Option, Some, None, if◌then◌else◌}
 use Rattle.std.specs.List.{All, sum_by}
 use Rattle.boxed_problem.specs.Sides.{side_at, reach}
-use Rattle.boxed_problem.specs.Sums.{size_below, number_at}
+use Rattle.base_words.specs.Sums.{size_below, number_at}
 use Rattle.boxed_problem.specs.declared.parts.Side.{Side}
 use Rattle.boxed_problem.specs.declared.parts.Limits.{Limits}
 use Rattle.boxed_problem.specs.declared.parts.Entry.{Entry}

@@ -4,7 +4,7 @@ use Rattle.std.specs.List.{fold}
 use Rattle.boxed_problem.specs.Objective.{curve}
 use Rattle.boxed_problem.specs.Points.{side_values}
 use Rattle.boxed_problem.specs.Sides.{side_at}
-use Rattle.boxed_problem.specs.Sums.{number_at, sum_below}
+use Rattle.base_words.specs.Sums.{number_at, sum_below}
 use Rattle.boxed_problem.specs.declared.parts.Side.{Side}
 use Rattle.boxed_problem.specs.Data.{Problem}
 

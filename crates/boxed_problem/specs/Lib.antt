@@ -13,4 +13,4 @@ pub mod PriceFit
 pub mod Ranges
 pub mod Rows
 pub mod Sides
-pub mod Sums
+pub use Rattle.base_words.specs.Sums

@@ -1,5 +1,5 @@
 use Rattle.std.specs.Prelude.{ℕ, List, length, ℤ, ◌+ℤ◌, ◌*ℤ◌}
-use Rattle.boxed_problem.specs.Sums.{sum_below, number_at}
+use Rattle.base_words.specs.Sums.{sum_below, number_at}
 use Rattle.boxed_problem.specs.Data.{Problem}
 
 -- line times x and square times x times x

@@ -1,7 +1,7 @@
 use Rattle.std.specs.Prelude.{◌≡◌, ℕ, zero, suc, ◌*◌, ◌<◌, List, [], ◌∷◌, map, length, ℤ, pos, negsuc, ◌+ℤ◌, ◌-ℤ◌, ◌≤ℤ◌}
 use Rattle.std.specs.List.{flat_map}
 use Rattle.boxed_problem.specs.Sides.{side_at}
-use Rattle.boxed_problem.specs.Sums.{number_at}
+use Rattle.base_words.specs.Sums.{number_at}
 use Rattle.boxed_problem.specs.declared.parts.Side.{Side}
 
 -- how many whole numbers lie from a to a + d

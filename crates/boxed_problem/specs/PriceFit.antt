@@ -1,6 +1,6 @@
 use Rattle.std.specs.Prelude.{◌≡◌, ℕ, ◌+◌, ◌*◌, ◌^◌, ◌<◌, ◌≤◌, length, ℤ, pos, ◌≤ℤ◌, unsigned_abs, None}
 use Rattle.boxed_problem.specs.Facts.{limits_at, row_size, value_size}
-use Rattle.boxed_problem.specs.Sums.{number_at, size_below}
+use Rattle.base_words.specs.Sums.{number_at, size_below}
 use Rattle.boxed_problem.specs.declared.parts.Limits.{Limits}
 use Rattle.boxed_problem.specs.declared.parts.Prices.{Prices}
 use Rattle.boxed_problem.specs.Data.{Problem}

@@ -23,6 +23,7 @@ pub fn step(sides: &[Side], point: &mut List<i64>) -> bool
     requires { OnSides sides.now point.old }
     ensures next { result ≡ true → next_point sides.now point.old ≡ Some point.new }
     ensures last { result ≡ false → next_point sides.now point.old ≡ None }
+    ensures back { result ≡ false → point.new ≡ corner sides.now }
 {
     let mut j = sides.len();
     while j > 0 {

@@ -1,1 +1,10 @@
+pub mod Ahead
+pub mod Bars
+pub mod BetterLaws
+pub mod Cutting
+pub mod Descending
+pub mod FrameLaws
+pub mod Opening
 pub mod Stack
+pub mod Steps
+pub mod Trees

@@ -2,12 +2,19 @@
 //! point that has it.
 #![tactic(auto)]
 
+mod bettering;
 mod fault;
+mod first_values;
+mod frames;
 mod halving;
 mod leaving;
+mod narrowing;
+mod plain_law;
 mod searching;
+mod stepping;
 #[cfg(test)]
 mod tests;
 
 pub use fault::SolveFault;
+pub use plain_law::plain_search_is_unbounded;
 pub use searching::solve;

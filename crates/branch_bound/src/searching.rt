@@ -1,54 +1,67 @@
-ghost use Rattle.std.specs.Prelude.{◌≡◌, ℕ, ◌+◌, IfOk, OnOk};
+ghost use Rattle.std.specs.Prelude.{◌≡◌, ◌<◌, ℕ, ◌+◌, OnOk, length};
 ghost use Rattle.std.specs.List.{AllByRecursion};
 ghost use Rattle.boxed_problem.specs.Data.{problem_of};
-ghost use Rattle.boxed_problem.specs.Optimum.{priced};
 ghost use Rattle.boxed_problem.specs.PlainSearch.{search, search_all};
-ghost use Rattle.boxed_problem.specs.Sides.{Within, corner};
 ghost use Rattle.branch_bound.specs.Answers.{IsAnswer};
+ghost use Rattle.branch_bound.specs.Frames.{Chain, IsFrame, IsStack, box_of, boxes_of};
+ghost use Rattle.propagate.specs.SparseParts.{IsOf};
+ghost use Rattle.branch_bound.specs.Narrowing.{IsBar, IsKnown, NotPast};
 
 use crate::fault::SolveFault;
-use crate::halving::{copy, first_wide, halve};
-use crate::leaving::is_left;
-use boxed_problem::{Best, Boxed, Side, first_point};
+use crate::first_values::first_value;
+use crate::frames::{Frame, halve, push_two, root};
+use crate::stepping::{start, step};
+use boxed_problem::{Best, Boxed};
+use propagate::{Sparse, Trail, sparse_of};
 use std::alloc::{AllocError, Global};
 use wide_num::List;
 
-/// The only point of a box of single columns, with its value.
-fn only_point(alloc: Global, problem: &Boxed, sides: &List<Side>) -> Result<Best, AllocError>
-    requires { Within sides.now problem.now.columns }
-    ensures { IfOk result (λ best. best ≡ priced (problem_of problem.now) (corner sides.now)) }
-{
-    let point = first_point(alloc, sides.as_slice())?;
-    let value = problem.value(&point);
-    Ok(Best { point, value })
-}
+/// How many boxes the first pass may open at most, which aren't counted.
+const FIRST_PASS_BOXES: u64 = 50_000;
 
-/// Opens a box: leaves it, or takes its only point, or puts its halves on the
-/// stack, the low one on top.
+/// Opens a box, and puts its halves on the stack, the low one on top.
 fn open(
     alloc: Global,
     problem: &Boxed,
-    sides: List<Side>,
+    sparse: &Sparse,
+    frame: Frame,
     best: &mut Option<Best>,
-    stack: &mut List<List<Side>>,
+    trail: &mut Trail,
+    frames: &mut List<Frame>,
 ) -> Result<(), AllocError>
-    requires sides { Within sides problem.now.columns }
-    requires stack { AllByRecursion (λ s. Within s problem.now.columns) stack.old }
-    ensures stack { OnOk result (AllByRecursion (λ s. Within s problem.now.columns) stack.new) }
-    ensures search { OnOk result ((n : ℕ) → search_all (problem_of problem.now) stack.new (record { best = best.new; opened = n + 1 }) ≡ search_all (problem_of problem.now) stack.old (search (problem_of problem.now) sides (record { best = best.old; opened = n }))) }
+    requires frame { IsFrame (problem_of problem.now) best.old trail.old frame }
+    requires mark { frame.mark < length trail.old.marks }
+    requires of { IsOf (problem_of problem.now) sparse.now }
+    requires sparse { sparse.now ≡ trail.old.sparse.value }
+    requires chain { Chain 0 frames.old frame.mark }
+    requires frames { AllByRecursion (IsFrame (problem_of problem.now) best.old trail.old) frames.old }
+    ensures same { OnOk result (trail.new.sparse.value ≡ trail.old.sparse.value) }
+    ensures stack { OnOk result (IsStack (problem_of problem.now) best.new trail.new frames.new) }
+    ensures search { OnOk result ((n : ℕ) → NotPast (search_all (problem_of problem.now) (boxes_of problem.now.columns trail.new frames.new) (record { best = best.new; opened = n + 1 })) (search_all (problem_of problem.now) (boxes_of problem.now.columns trail.old frames.old) (search (problem_of problem.now) (box_of problem.now.columns trail.old frame) (record { best = best.old; opened = n })))) }
 {
-    if is_left(problem, &sides, best) {
-        return Ok(());
-    }
-    let Some(column) = first_wide(sides.as_slice()) else {
-        let point = only_point(alloc, problem, &sides)?;
-        *best = Some(point);
+    let Some(place) = step(alloc, problem, sparse, frame, best, trail)? else {
         return Ok(());
     };
-    let halves = halve(sides, column)?;
-    stack.push(halves.high)?;
-    stack.push(halves.low)?;
+    let mark = trail.mark()?;
+    let halves = halve(mark, place);
+    push_two(frames, halves.high, halves.low)?;
     Ok(())
+}
+
+/// What the search begins with: nothing, or what each point of at most the
+/// known value is below.
+fn bar(alloc: Global, problem: &Boxed, known: Option<i128>) -> Option<Best>
+    requires { IsKnown (problem_of problem.now) known }
+    ensures { IsBar (problem_of problem.now) result }
+{
+    let _problem = problem;
+    match known {
+        Some(value) => Some(Best {
+            point: List::new(alloc),
+            value: value + 1,
+        }),
+        None => None,
+    }
 }
 
 /// The least value over the feasible points, and the first point in the order
@@ -58,20 +71,34 @@ fn open(
 pub fn solve(alloc: Global, problem: &Boxed, budget: u64) -> Result<Best, SolveFault>
     ensures { IsAnswer (problem_of problem.now) budget result }
 {
-    let Ok(whole) = copy(&problem.columns) else {
+    let Ok(known) = first_value(alloc, problem, (budget / 10).min(FIRST_PASS_BOXES)) else {
         return Err(SolveFault::Memory);
     };
-    let mut stack = List::new(alloc);
-    let Ok(()) = stack.push(whole) else {
+    let Ok(sparse) = sparse_of(alloc, problem) else {
         return Err(SolveFault::Memory);
     };
-    let mut best = None;
+    let Ok(mut trail) = start(alloc, problem, &sparse) else {
+        return Err(SolveFault::Memory);
+    };
+    let mut frames = List::new(alloc);
+    let Ok(()) = frames.push(root(problem.columns.as_slice())) else {
+        return Err(SolveFault::Memory);
+    };
+    let mut best = bar(alloc, problem, known);
     let mut opened = 0u64;
-    while let Some(sides) = stack.pop() {
+    while let Some(frame) = frames.pop() {
         if opened == budget {
             return Err(SolveFault::Spent { opened });
         }
-        let Ok(()) = open(alloc, problem, sides, &mut best, &mut stack) else {
+        let Ok(()) = open(
+            alloc,
+            problem,
+            &sparse,
+            frame,
+            &mut best,
+            &mut trail,
+            &mut frames,
+        ) else {
             return Err(SolveFault::Memory);
         };
         opened += 1;

@@ -56,13 +56,13 @@ fn small(rt: &impl Abort, alloc: Global, need: i128) -> Result<Boxed, AllocError
 
 #[test]
 fn counts_boxes_of_small(rt: HostRuntime) -> Result<(), Fail> {
-    for (need, x, value, few, boxes) in [(2, 2, 20, 30, 31), (6, 6, 60, 70, 71)] {
+    for (need, x, value, few) in [(2, 2, 20, 13), (6, 6, 60, 21)] {
         let problem = small(&rt, rt.alloc(), need)?;
-        let best = solve(rt.alloc(), &problem, boxes)?;
+        let best = solve(rt.alloc(), &problem, few)?;
         assert_eq!(rt; best.value, value);
         assert_eq!(rt; best.point.as_slice(), [x, 0].as_slice());
-        let fault = solve(rt.alloc(), &problem, few).err();
-        assert_eq!(rt; fault, Some(SolveFault::Spent { opened: few }));
+        let fault = solve(rt.alloc(), &problem, 1).err();
+        assert_eq!(rt; fault, Some(SolveFault::Spent { opened: 1 }));
         let none = solve(rt.alloc(), &problem, 0).err();
         assert_eq!(rt; none, Some(SolveFault::Spent { opened: 0 }));
     }
@@ -100,12 +100,20 @@ fn agrees(alloc: Global, problem: &Boxed) -> Result<bool, AllocError> {
 
 #[test]
 fn agrees_with_the_list_of_points(rt: HostRuntime) -> Result<(), Fail> {
-    let boxes = [[(0, 3), (-2, 2)], [(-3, -1), (0, 0)], [(5, 5), (-4, 4)]];
+    let boxes = [
+        [(0, 3), (-2, 2)],
+        [(-3, -1), (0, 0)],
+        [(5, 5), (-4, 4)],
+        [(-2, 3), (-2, 3)],
+        [(1, 1), (-1, -1)],
+    ];
     let objectives = [
         [(1, 0), (1, 0)],
         [(-3, 2), (4, 0)],
         [(0, 1), (-5, 3)],
         [(0, 0), (-1, 0)],
+        [(2, 0), (2, 0)],
+        [(-7, 1), (3, 2)],
     ];
     let limits = [
         [(None, None), (None, None)],
@@ -113,6 +121,8 @@ fn agrees_with_the_list_of_points(rt: HostRuntime) -> Result<(), Fail> {
         [(Some(-1), Some(1)), (Some(-2), None)],
         [(Some(2), Some(2)), (None, None)],
         [(Some(90), None), (None, None)],
+        [(None, Some(-3)), (Some(-9), Some(4))],
+        [(Some(0), Some(0)), (Some(0), None)],
     ];
     for columns in boxes {
         for objective in objectives {
@@ -153,5 +163,52 @@ fn needs_no_columns_and_no_rows(rt: HostRuntime) -> Result<(), Fail> {
     }
     let free = problem(alloc, [(-2, 2), (1, 4)], [(-1, 1), (2, 0)], 1, &[])?;
     assert!(rt; agrees(alloc, &free.expect(&rt, "a problem"))?);
+    Ok(())
+}
+
+/// The problem of one column that is 0 or 1, with an entry, an upper limit and a
+/// linear part.
+fn switch(
+    alloc: Global,
+    entry: i128,
+    upper: i128,
+    linear: i128,
+) -> Result<Option<Boxed>, AllocError> {
+    let mut sides = List::new(alloc);
+    sides.push(Side { lower: 0, upper: 1 })?;
+    let mut limits = List::new(alloc);
+    limits.push(Limits {
+        lower: None,
+        upper: Some(upper),
+    })?;
+    let mut entries = List::new(alloc);
+    entries.push(Entry {
+        row: 0,
+        column: 0,
+        value: entry,
+    })?;
+    let mut line = List::new(alloc);
+    line.push(linear)?;
+    let mut square = List::new(alloc);
+    square.push(0)?;
+    Ok(Boxed::new(sides, limits, entries, 0, line, square))
+}
+
+#[test]
+fn reaches_the_greatest_numbers(rt: HostRuntime) -> Result<(), Fail> {
+    let most = 1 << 122;
+    let half = 1 << 121;
+    let cases = [
+        (half, half, -most, 1, -most),
+        (half, half - 1, -most, 0, 0),
+        (-half, -half, most, 1, most),
+        (-half, half, most, 0, 0),
+    ];
+    for (entry, upper, linear, x, value) in cases {
+        let found = switch(rt.alloc(), entry, upper, linear)?;
+        let best = solve(rt.alloc(), &found.expect(&rt, "a problem"), 10)?;
+        assert_eq!(rt; best.value, value, "at {entry} {upper}");
+        assert_eq!(rt; best.point.as_slice(), [x].as_slice(), "at {entry} {upper}");
+    }
     Ok(())
 }

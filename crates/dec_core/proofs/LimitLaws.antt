@@ -1,10 +1,12 @@
+-- what is within the limits of a decimal
 use Rattle.std.proofs.Common.{◌≡◌, ℕ, ◌+◌, ◌-◌, ◌*◌, ◌^◌, ◌<◌, ◌≤◌, Bool, ◌⊎◌, inl, inr, min, true, false, Ok, Err, unsigned_abs, zero, suc, refl, ap, arith}
 use Rattle.std.proofs.lemmas.Bool.{cases_lt}
 use Rattle.std.proofs.lemmas.Bool.Decides.{nat_tests}
-use Rattle.dec_core.specs.DecimalValue.{within_limits, signed}
+use Rattle.base_words.specs.Signs.{signed}
+use Rattle.dec_core.specs.DecimalValue.{within_limits}
 use Rattle.dec_core.specs.declared.decimal.Decimal.{Decimal}
 use Rattle.dec_core.specs.declared.decimal.DecFault.TheVariants.{TooManyPlaces, TooLarge}
-use Rattle.dec_core.specs.Stripped.{most_significand, most_exponent}
+use Rattle.dec_core.specs.Stripped.{max_significand, max_exponent}
 use Rattle.dec_core.proofs.Powers.{far_up}
 
 -- the limits see numbers above them as one
@@ -12,7 +14,7 @@ pub limits_agree : (n : Bool) (m p k q : ℕ) → (p ≤ 9 → q ≡ p) → (9 <
 limits_agree n m p k q a b c d = grind (arith, nat_tests)
 
 -- equal powers of ten, or two that are far up, leave products that the limits see as one
-product_agrees : (v k q : ℕ) → 0 < v → (k ≡ q) ⊎ ((37 ≤ k) × (37 ≤ q)) → (v * 10 ^ k ≤ 10 ^ 36 → min (v * 10 ^ q) most_significand ≡ v * 10 ^ k) × (10 ^ 36 < v * 10 ^ k → 10 ^ 36 < min (v * 10 ^ q) most_significand)
+product_agrees : (v k q : ℕ) → 0 < v → (k ≡ q) ⊎ ((37 ≤ k) × (37 ≤ q)) → (v * 10 ^ k ≤ 10 ^ 36 → min (v * 10 ^ q) max_significand ≡ v * 10 ^ k) × (10 ^ 36 < v * 10 ^ k → 10 ^ 36 < min (v * 10 ^ q) max_significand)
 product_agrees v k q h (inl e) =
     let f : v * 10 ^ k ≡ v * 10 ^ q = ap (λ n. v * 10 ^ n) e in
     (λ g. omega arith, λ g. omega arith)
@@ -22,18 +24,18 @@ product_agrees v k q h (inr (a, b)) =
     (λ l. absurd (omega arith), λ l. omega arith)
 
 -- a capped exponent leaves the same power of ten above, or one as far up
-power_agrees : (z f r d : ℕ) → z ≤ 2 ^ 65 → f < 2 ^ 64 → min r d ≡ 0 → (z + r - (f + d) ≡ z + min r most_exponent - (f + min d most_exponent)) ⊎ ((37 ≤ z + r - (f + d)) × (37 ≤ z + min r most_exponent - (f + min d most_exponent)))
+power_agrees : (z f r d : ℕ) → z ≤ 2 ^ 65 → f < 2 ^ 64 → min r d ≡ 0 → (z + r - (f + d) ≡ z + min r max_exponent - (f + min d max_exponent)) ⊎ ((37 ≤ z + r - (f + d)) × (37 ≤ z + min r max_exponent - (f + min d max_exponent)))
 power_agrees z f r d b c e =
-    elim (cases_lt most_exponent r) as (λ _. (z + r - (f + d) ≡ z + min r most_exponent - (f + min d most_exponent)) ⊎ ((37 ≤ z + r - (f + d)) × (37 ≤ z + min r most_exponent - (f + min d most_exponent)))) [
+    elim (cases_lt max_exponent r) as (λ _. (z + r - (f + d) ≡ z + min r max_exponent - (f + min d max_exponent)) ⊎ ((37 ≤ z + r - (f + d)) × (37 ≤ z + min r max_exponent - (f + min d max_exponent)))) [
       | inl h ↦ inr (omega arith, omega arith)
       | inr h ↦ inl (omega arith)
     ]
 
 -- what capped exponents and a capped product leave is within the limits where the true ones are
-pub caps_agree : (n : Bool) (v z f r d : ℕ) → 0 < v → z ≤ 2 ^ 65 → f < 2 ^ 64 → min r d ≡ 0 → within_limits n (v * 10 ^ (z + r - (f + d))) (f + d - (z + r)) ≡ within_limits n (min (v * 10 ^ (z + min r most_exponent - (f + min d most_exponent))) most_significand) (f + min d most_exponent - (z + min r most_exponent))
+pub caps_agree : (n : Bool) (v z f r d : ℕ) → 0 < v → z ≤ 2 ^ 65 → f < 2 ^ 64 → min r d ≡ 0 → within_limits n (v * 10 ^ (z + r - (f + d))) (f + d - (z + r)) ≡ within_limits n (min (v * 10 ^ (z + min r max_exponent - (f + min d max_exponent))) max_significand) (f + min d max_exponent - (z + min r max_exponent))
 caps_agree n v z f r d a b c e =
-    let p = product_agrees v (z + r - (f + d)) (z + min r most_exponent - (f + min d most_exponent)) a (power_agrees z f r d b c e) in
-    limits_agree n (v * 10 ^ (z + r - (f + d))) (f + d - (z + r)) (min (v * 10 ^ (z + min r most_exponent - (f + min d most_exponent))) most_significand) (f + min d most_exponent - (z + min r most_exponent))
+    let p = product_agrees v (z + r - (f + d)) (z + min r max_exponent - (f + min d max_exponent)) a (power_agrees z f r d b c e) in
+    limits_agree n (v * 10 ^ (z + r - (f + d))) (f + d - (z + r)) (min (v * 10 ^ (z + min r max_exponent - (f + min d max_exponent))) max_significand) (f + min d max_exponent - (z + min r max_exponent))
     (λ h. omega arith) (λ h. omega arith) p.0 p.1
 
 -- what is within the limits

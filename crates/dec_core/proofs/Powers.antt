@@ -1,3 +1,4 @@
+-- powers of ten as factors and divisors
 use Rattle.std.proofs.Common.{◌≡◌, ℕ, ◌+◌, ◌-◌, ◌*◌, ◌/◌, ◌%◌, ◌^◌, ◌<◌, ◌≤◌, sym, ap, ◌∙◌, arith}
 use Rattle.std.proofs.lemmas.Nat.{pow-add}
 use Rattle.std.proofs.Math.Nat.{one-le-pow, mul-div_cancel, mul-mod_right, mul_assoc, mul_comm, le-mul_of_pos_right, pow-le-pow_right}

@@ -1,7 +1,8 @@
+-- a number read by its capped parts has the value that it is spelled with
 use Rattle.std.proofs.Common.{◌≡◌, ℕ, ◌+◌, ◌-◌, ◌*◌, ◌%◌, ◌^◌, ◌<◌, ◌≤◌, Bool, true, false, List, Option, Some, None, Result, Ok, Err, IfOk, pos, unsigned_abs, min, refl, sym, zero-mul, ap, ◌∙◌, arith}
 use Rattle.std.specs.Str.Parse.{digits_value}
 use Rattle.dec_core.specs.Spelling.{Spelling, spelling_of, raised_by, lowered_by}
-use Rattle.dec_core.specs.Stripped.{IsStripped, most_significand, most_exponent}
+use Rattle.dec_core.specs.Stripped.{IsStripped, max_significand, max_exponent}
 use Rattle.dec_core.specs.DecimalValue.{IsNormal, ReadsAs, decimal_of, within_limits, mantissa_of, places_of, decimal_of_spelling}
 use Rattle.dec_core.specs.declared.decimal.Decimal.{Decimal}
 use Rattle.dec_core.specs.declared.decimal.DecFault.{DecFault}
@@ -35,8 +36,8 @@ one_way (Some text) = grind arith
 
 -- a number with a digit above 0 is read from its significand and capped exponents
 pub number_read : (s : Spelling) (value zeros f d up down k p m : ℕ) → IsStripped (digits_value 10 s.digits) value zeros → 0 < value → zeros ≤ 2 ^ 65 → f < 2 ^ 64
-    → s.lowered ≡ f + d → min s.raised d ≡ 0 → up ≡ min s.raised most_exponent → down ≡ min d most_exponent
-    → k ≡ zeros + up - (f + down) → p ≡ f + down - (zeros + up) → m ≡ min (value * 10 ^ k) most_significand
+    → s.lowered ≡ f + d → min s.raised d ≡ 0 → up ≡ min s.raised max_exponent → down ≡ min d max_exponent
+    → k ≡ zeros + up - (f + down) → p ≡ f + down - (zeros + up) → m ≡ min (value * 10 ^ k) max_significand
     → within_limits s.negative m p ≡ within_limits s.negative (mantissa_of s) (places_of s)
 number_read s value zeros f d up down k p m h some z l low way u w ek ep em =
     ap (λ n. within_limits s.negative n p) product ∙ ap (λ q. within_limits s.negative capped q) places
@@ -52,13 +53,13 @@ number_read s value zeros f d up down k p m h some z l low way u w ek ep em =
         (value_of_stripped s h.number zeros h.exact (λ e. omega (arith, h.last e))) (value_found s)
 
     capped : ℕ
-    capped = min (h.number * 10 ^ (zeros + min s.raised most_exponent - (f + min d most_exponent))) most_significand
+    capped = min (h.number * 10 ^ (zeros + min s.raised max_exponent - (f + min d max_exponent))) max_significand
 
     product : m ≡ capped
-    product = em ∙ ap (λ n. min (n * 10 ^ k) most_significand) h.capped ∙ capped_product h.number k most_significand
-        ∙ ap (λ j. min (h.number * 10 ^ j) most_significand) (ek ∙ omega arith)
+    product = em ∙ ap (λ n. min (n * 10 ^ k) max_significand) h.capped ∙ capped_product h.number k max_significand
+        ∙ ap (λ j. min (h.number * 10 ^ j) max_significand) (ek ∙ omega arith)
 
-    places : p ≡ f + min d most_exponent - (zeros + min s.raised most_exponent)
+    places : p ≡ f + min d max_exponent - (zeros + min s.raised max_exponent)
     places = omega arith
 
     mantissa_is : h.number * 10 ^ (zeros + s.raised - (f + d)) ≡ h.number * 10 ^ (zeros + s.raised - s.lowered)

@@ -1,8 +1,9 @@
+-- rows of digits without the zeros at their end, one digit more
 use Rattle.std.proofs.Common.{◌≡◌, ℕ, ◌+◌, ◌-◌, ◌*◌, ◌%◌, ◌^◌, ◌<◌, ◌≤◌, min, inl, inr, refl, sym, ap, ◌∙◌, arith}
 use Rattle.std.proofs.lemmas.Bool.{cases_lt}
 use Rattle.std.proofs.lemmas.Nat.{mod-mul-add}
 use Rattle.std.proofs.Math.Nat.{mul-one}
-use Rattle.dec_core.specs.Stripped.{IsStripped, most_significand}
+use Rattle.dec_core.specs.Stripped.{IsStripped, max_significand}
 use Rattle.dec_core.proofs.Powers.{powers_joined, not_less}
 
 -- a cap before a product with a power of ten changes nothing behind the product's own cap
@@ -35,12 +36,12 @@ zero_behind n v z d f h = record {
 }
 
 -- one digit more that isn't zero
-pub digit_behind : (n v z d w : ℕ) → 0 < d → d < 10 → w ≡ min (min (v * 10 ^ (z + 1)) most_significand + d) most_significand → IsStripped n v z → IsStripped (n * 10 + d) w 0
+pub digit_behind : (n v z d w : ℕ) → 0 < d → d < 10 → w ≡ min (min (v * 10 ^ (z + 1)) max_significand + d) max_significand → IsStripped n v z → IsStripped (n * 10 + d) w 0
 digit_behind n v z d w g l e h = record {
   number = h.number * 10 ^ (z + 1) + d;
   exact = ap (λ k. k + d) (ten_times n h.number z h.exact) ∙ sym (mul-one (h.number * 10 ^ (z + 1) + d));
   last = λ f. absurd (omega (arith, f, ends_in_digit));
-  capped = e ∙ omega (arith, ap (λ k. min (k * 10 ^ (z + 1)) most_significand) h.capped ∙ capped_product h.number (z + 1) most_significand);
+  capped = e ∙ omega (arith, ap (λ k. min (k * 10 ^ (z + 1)) max_significand) h.capped ∙ capped_product h.number (z + 1) max_significand);
 }
   where
     ends_in_digit : (h.number * 10 ^ (z + 1) + d) % 10 ≡ d

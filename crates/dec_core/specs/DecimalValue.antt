@@ -1,6 +1,8 @@
-use Rattle.std.specs.Prelude.{◌≡◌, ◌≢◌, ℕ, ◌*◌, ◌/◌, ◌%◌, ◌^◌, ◌<◌, ◌≤◌, Bool, true, false, ◌==◌, nat_lt, if◌then◌else◌, List, Option, Some, None, Result, Ok, Err, ℤ, pos, neg_ℤ, unsigned_abs}
+-- the value of a spelled number, and what a text is read as
+use Rattle.std.specs.Prelude.{◌≡◌, ◌≢◌, ℕ, ◌*◌, ◌/◌, ◌%◌, ◌^◌, ◌<◌, ◌≤◌, Bool, ◌==◌, nat_lt, if◌then◌else◌, List, Option, Some, None, Result, Ok, Err, unsigned_abs}
 use Rattle.std.specs.List.{position_or_len, range_with_len}
 use Rattle.std.specs.Str.Parse.{digits_value}
+use Rattle.base_words.specs.Signs.{signed}
 use Rattle.dec_core.specs.Spelling.{Spelling, spelling_of}
 use Rattle.dec_core.specs.declared.decimal.Decimal.{Decimal}
 use Rattle.dec_core.specs.declared.decimal.DecFault.{DecFault}
@@ -27,16 +29,19 @@ places_of s = position_or_len (are_enough s) (range_with_len 0 s.lowered)
 unfoldable pub mantissa_of : Spelling → ℕ
 mantissa_of s = digits_value 10 s.digits * 10 ^ s.raised * 10 ^ places_of s / 10 ^ s.lowered
 
--- a magnitude with its sign
-abbrev pub signed : Bool → ℕ → ℤ
-signed true m = neg_ℤ (pos m)
-signed false m = pos m
+-- the greatest number of decimal places
+abbrev pub max_places : ℕ
+max_places = 9
 
--- the number m / 10^p with its sign, within nine places and a mantissa of magnitude 10^36
+-- the greatest magnitude of a mantissa
+abbrev pub max_mantissa : ℕ
+max_mantissa = 10 ^ 36
+
+-- the number m / 10^p with its sign, within these limits
 abbrev pub within_limits : Bool → ℕ → ℕ → Result Decimal DecFault
 within_limits negative m p =
-    if nat_lt 9 p then Err TooManyPlaces
-    else (if nat_lt (10 ^ 36) m then Err (TooLarge negative)
+    if nat_lt max_places p then Err TooManyPlaces
+    else (if nat_lt max_mantissa m then Err (TooLarge negative)
     else Ok (record { mantissa = signed negative m; places = p }))
 
 -- a text that is spelled as no number is answered so, and any other by its value within the limits
@@ -55,6 +60,6 @@ decimal_of text = decimal_of_spelling (spelling_of text)
 
 -- a decimal as it is read: within the limits, and a place is there only where it is needed
 pub record IsNormal (d : Decimal) : Type 0 where
-  pub places : d.places ≤ 9
-  pub mantissa : unsigned_abs d.mantissa ≤ 10 ^ 36
+  pub places : d.places ≤ max_places
+  pub mantissa : unsigned_abs d.mantissa ≤ max_mantissa
   pub fewest : 0 < d.places → unsigned_abs d.mantissa % 10 ≢ 0

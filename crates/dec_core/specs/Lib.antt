@@ -3,3 +3,4 @@ pub mod Scale
 pub mod Spelling
 pub mod SpellingOfParts
 pub mod Stripped
+pub use Rattle.base_words.specs.Signs

@@ -1,3 +1,4 @@
+-- a common number of places, and numbers scaled to it
 use Rattle.std.specs.Prelude.{◌≡◌, ℕ, ◌-◌, ◌^◌, max, fold, Any, List, [], ◌∷◌, ℤ, pos, ◌*ℤ◌}
 use Rattle.dec_core.specs.declared.decimal.Decimal.{Decimal}
 

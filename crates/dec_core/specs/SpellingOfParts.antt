@@ -1,3 +1,4 @@
+-- the spelling that cut parts stand for
 use Rattle.std.specs.Option.{option_copied}
 use Rattle.dec_core.specs.Spelling.{Spelling, spelled}
 use Rattle.dec_core.specs.declared.parts.Parts.{Parts}

@@ -1,16 +1,17 @@
+-- rows of digits without the zeros at their end, up to caps above all limits
 use Rattle.std.specs.Prelude.{◌≡◌, ℕ, ◌*◌, ◌%◌, ◌^◌, min}
 
 -- a number of at least 10^37 counts as 10^37, which is above each limit
-abbrev pub most_significand : ℕ
-most_significand = 10 ^ 37
+abbrev pub max_significand : ℕ
+max_significand = 10 ^ 37
 
 -- an exponent of at least 2^100 counts as 2^100, which is above each number of digits in memory
-abbrev pub most_exponent : ℕ
-most_exponent = 2 ^ 100
+abbrev pub max_exponent : ℕ
+max_exponent = 2 ^ 100
 
 -- n is a number with these zeros behind it; the number itself ends in 0 only where it is 0, and is known up to its cap
 pub record IsStripped (n value zeros : ℕ) : Type 0 where
   pub number : ℕ
   pub exact : n ≡ number * 10 ^ zeros
   pub last : number % 10 ≡ 0 → number ≡ 0
-  pub capped : value ≡ min number most_significand
+  pub capped : value ≡ min number max_significand

@@ -5,38 +5,28 @@ ghost use Rattle.std.specs.Option.{option_copied};
 ghost use Rattle.dec_core.specs.Spelling.{are_parts, is_exponent, raised_by, lowered_by, spelling_of};
 ghost use Rattle.dec_core.specs.SpellingOfParts.{spelling_of_parts};
 ghost use Rattle.std.specs.Str.Parse.{digits_value};
-ghost use Rattle.dec_core.specs.Stripped.{IsStripped, most_exponent, most_significand};
-ghost use Rattle.dec_core.specs.DecimalValue.{IsNormal, ReadsAs, signed, within_limits, decimal_of, decimal_of_spelling};
+ghost use Rattle.dec_core.specs.Stripped.{IsStripped, max_exponent, max_significand};
+ghost use Rattle.dec_core.specs.DecimalValue.{IsNormal, ReadsAs, within_limits, decimal_of, decimal_of_spelling};
 
 use crate::decimal::{DecFault, Decimal};
 use crate::exponent::capped_number;
 use crate::parts::{Parts, has_minus, split, unsigned_text};
 use crate::significand::{Significand, scaled_up, with_digits};
+use wide_num::signed;
 
 /// The greatest number of decimal places.
-const MOST_PLACES: u128 = 9;
+const MAX_PLACES: u128 = 9;
 
 /// The greatest magnitude of a mantissa, 10^36.
-const MOST_MANTISSA: u128 = 1_000_000_000_000_000_000_000_000_000_000_000_000;
-
-fn signed(negative: bool, magnitude: u128) -> i128
-    requires { magnitude < 2 ^ 127 }
-    ensures { result ≡ signed negative magnitude }
-{
-    if negative {
-        -(magnitude as i128)
-    } else {
-        magnitude as i128
-    }
-}
+const MAX_MANTISSA: u128 = 1_000_000_000_000_000_000_000_000_000_000_000_000;
 
 fn within_limits(negative: bool, mantissa: u128, places: u128) -> Result<Decimal, DecFault>
     ensures { result ≡ within_limits negative mantissa places }
 {
-    if places > MOST_PLACES {
+    if places > MAX_PLACES {
         return Err(DecFault::TooManyPlaces);
     }
-    if mantissa > MOST_MANTISSA {
+    if mantissa > MAX_MANTISSA {
         return Err(DecFault::TooLarge { negative });
     }
     Ok(Decimal {
@@ -49,8 +39,8 @@ fn within_limits(negative: bool, mantissa: u128, places: u128) -> Result<Decimal
 /// greatest exponent.
 fn powers_of(exponent: Option<&[u8]>) -> (u128, u128)
     requires { is_exponent (option_copied exponent) ≡ true }
-    ensures raised { result.0 ≡ min (raised_by (option_copied exponent.entry)) most_exponent }
-    ensures lowered { result.1 ≡ min (lowered_by (option_copied exponent.entry)) most_exponent }
+    ensures raised { result.0 ≡ min (raised_by (option_copied exponent.entry)) max_exponent }
+    ensures lowered { result.1 ≡ min (lowered_by (option_copied exponent.entry)) max_exponent }
 {
     let Some(text) = exponent else {
         return (0, 0);
@@ -67,7 +57,7 @@ fn significand_of(whole: &[u8], fraction: &[u8]) -> Significand
     requires whole { list_all is_ascii_digit whole.now ≡ true }
     requires fraction { list_all is_ascii_digit fraction.now ≡ true }
     ensures stripped { IsStripped (digits_value 10 (whole.now ++ fraction.now)) result.value result.zeros }
-    ensures value { result.value ≤ most_significand }
+    ensures value { result.value ≤ max_significand }
     ensures zeros { result.zeros ≤ 2 ^ 65 }
 {
     let start = with_digits(Significand { value: 0, zeros: 0 }, whole);
@@ -75,7 +65,7 @@ fn significand_of(whole: &[u8], fraction: &[u8]) -> Significand
 }
 
 /// The number that the parts spell.
-fn number_of(parts: &Parts<'_>) -> Result<Decimal, DecFault>
+fn decimal_of_parts(parts: &Parts<'_>) -> Result<Decimal, DecFault>
     requires { are_parts parts.now.whole.now parts.now.fraction.now (option_copied parts.now.exponent) ≡ true }
     ensures { result ≡ decimal_of_spelling (Some (spelling_of_parts parts.now)) }
 {
@@ -107,6 +97,6 @@ pub fn read(text: &[u8]) -> Result<Decimal, DecFault>
 {
     match split(text) {
         None => Err(DecFault::NotNumber),
-        Some(parts) => number_of(&parts),
+        Some(parts) => decimal_of_parts(&parts),
     }
 }

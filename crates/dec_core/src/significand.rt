@@ -2,12 +2,12 @@ ghost use Rattle.std.specs.Prelude.{◌≡◌, ℕ, List, ◌++◌, ◌+◌, ◌
 ghost use Rattle.std.specs.Char.{is_ascii_digit};
 ghost use Rattle.std.specs.List.{list_all};
 ghost use Rattle.std.specs.Str.Parse.{digits_value};
-ghost use Rattle.dec_core.specs.Stripped.{IsStripped, most_significand};
+ghost use Rattle.dec_core.specs.Stripped.{IsStripped, max_significand};
 
 use std::cmp;
 
 /// A number of at least 10^37 counts as 10^37.
-const MOST_SIGNIFICAND: u128 = 10_000_000_000_000_000_000_000_000_000_000_000_000;
+const MAX_SIGNIFICAND: u128 = 10_000_000_000_000_000_000_000_000_000_000_000_000;
 
 /// A number without the zeros at its end, and how many they are.
 #[derive(Clone, Copy)]
@@ -18,13 +18,13 @@ pub struct Significand {
 
 /// The product with a power of ten, up to the greatest significand.
 pub fn scaled_up(value: u128, power: u128) -> u128
-    requires { value ≤ most_significand }
-    ensures { result ≡ min (value * 10 ^ power) most_significand }
+    requires { value ≤ max_significand }
+    ensures { result ≡ min (value * 10 ^ power) max_significand }
 {
     let mut product = value;
     let mut left = power;
-    while left > 0 && product > 0 && product < MOST_SIGNIFICAND {
-        product = cmp::min(product * 10, MOST_SIGNIFICAND);
+    while left > 0 && product > 0 && product < MAX_SIGNIFICAND {
+        product = cmp::min(product * 10, MAX_SIGNIFICAND);
         left -= 1;
     }
     product
@@ -32,12 +32,12 @@ pub fn scaled_up(value: u128, power: u128) -> u128
 
 /// The significand with one more digit behind it.
 fn with_digit(significand: Significand, digit: u8) -> Significand
-    requires value { significand.value ≤ most_significand }
+    requires value { significand.value ≤ max_significand }
     requires zeros { significand.zeros < 2 ^ 100 }
     requires digit { digit < 10 }
     ensures stripped { (n : ℕ) → IsStripped n significand.value significand.zeros
         → IsStripped (n * 10 + digit) result.value result.zeros }
-    ensures value { result.value ≤ most_significand }
+    ensures value { result.value ≤ max_significand }
     ensures zeros { result.zeros ≤ significand.zeros + 1 }
 {
     let zeros = significand.zeros + 1;
@@ -49,19 +49,19 @@ fn with_digit(significand: Significand, digit: u8) -> Significand
     }
     let shifted = scaled_up(significand.value, zeros);
     Significand {
-        value: cmp::min(shifted + u128::from(digit), MOST_SIGNIFICAND),
+        value: cmp::min(shifted + u128::from(digit), MAX_SIGNIFICAND),
         zeros: 0,
     }
 }
 
 /// The significand with more digits behind it.
 pub fn with_digits(start: Significand, digits: &[u8]) -> Significand
-    requires value { start.value ≤ most_significand }
+    requires value { start.value ≤ max_significand }
     requires zeros { start.zeros ≤ 2 ^ 64 }
     requires digits { list_all is_ascii_digit digits.now ≡ true }
     ensures stripped { (front : List ℕ) → IsStripped (digits_value 10 front) start.value start.zeros
         → IsStripped (digits_value 10 (front ++ digits.now)) result.value result.zeros }
-    ensures value { result.value ≤ most_significand }
+    ensures value { result.value ≤ max_significand }
     ensures zeros { result.zeros ≤ start.zeros + length digits.now }
 {
     let mut significand = start;

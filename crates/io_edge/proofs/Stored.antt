@@ -1,4 +1,4 @@
--- Facts on what files hold once bytes were stored under a name.
+-- facts on what files hold once bytes were stored under a name
 use Rattle.std.proofs.Common.{◌≡◌, ◌≢◌, ℕ, List, Some, rules, false, cond, ap, ◌∙◌}
 use Rattle.std.proofs.lemmas.Slice.Eq.{bytes_eq-Decides}
 use Rattle.std.proofs.lemmas.Cmp.{nat_list_cmp_total}

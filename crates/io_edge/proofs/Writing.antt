@@ -1,4 +1,4 @@
--- Facts for all that writes to a sink, one piece after the other: what is
+-- facts for all that writes to a sink, one piece after the other: what is
 -- written is the text, or a front of it.
 use Rattle.std.proofs.Common.{◌≡◌, ℕ, ◌+◌, ◌<◌, List, [], ◌∷◌, ◌++◌, length, take, drop, get_or, None, Some, Option, Result, Ok, Err, refl, sym, ap, ◌∙◌, append_assoc, append-nil, take-append-drop}
 use Rattle.std.proofs.Math.Seq.{take-append_seam}

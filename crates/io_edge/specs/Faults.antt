@@ -1,5 +1,5 @@
-use Rattle.std.specs.Prelude.{◌≡◌, ℕ, ◌+◌, ◌-◌, ◌^◌, ◌≤◌, min, nat_eq, Bool, true, false, List, Result, Ok, Err}
-use Rattle.std.specs.List.{list_any}
+-- how faults are counted, and when a call fails
+use Rattle.std.specs.Prelude.{◌≡◌, ℕ, ◌+◌, ◌-◌, ◌^◌, ◌≤◌, min, Bool, true, false, Option, None, Some, IfSome, Result, Ok, Err}
 use Rattle.io_edge.specs.declared.faults.LoadFault.{LoadFault}
 use Rattle.io_edge.specs.declared.faults.LoadFault.TheVariants as load
 use Rattle.io_edge.specs.declared.faults.EdgeFault.{EdgeFault}
@@ -13,58 +13,56 @@ next_count n = min (n + 1) (2 ^ 64 - 1)
 abbrev pub Rises : ℕ → ℕ → Type 0
 Rises before after = (before ≤ after) × (next_count before ≤ after)
 
--- a load raises the count where it fails, and else leaves it
-abbrev pub CountsLoad : {B : Type 0} → ℕ → ℕ → Result B LoadFault → Type 0
-CountsLoad before after (Ok _) = after ≡ before
-CountsLoad before after (Err load.Failed) = Rises before after
-CountsLoad before after (Err load.TooLong) = after ≡ before
-CountsLoad before after (Err load.Memory) = after ≡ before
+-- the count rises where a fault is reported, and else stays
+abbrev pub Counts : {F : Type 0} → ℕ → ℕ → Option F → Type 0
+Counts before after None = after ≡ before
+Counts before after (Some fault) = Rises before after
 
--- a store or a put raises the count where it fails, and else leaves it
-abbrev pub CountsEdge : {U : Type 0} → ℕ → ℕ → Result U EdgeFault → Type 0
-CountsEdge before after (Ok _) = after ≡ before
-CountsEdge before after (Err edge.Failed) = Rises before after
-CountsEdge before after (Err edge.Memory) = after ≡ before
+-- the same where what is reported is the count itself
+abbrev pub CountsTo : ℕ → ℕ → Option ℕ → Type 0
+CountsTo before after reported = Counts before after reported × IfSome reported (λ count. count ≡ after)
 
--- a load fails exactly where it is to fail; memory can be refused to any
+-- the count rises by one where a fault is reported, and else stays
+abbrev pub CountsOne : {F : Type 0} → ℕ → ℕ → Option F → Type 0
+CountsOne before after None = after ≡ before
+CountsOne before after (Some fault) = after ≡ next_count before
+
+-- the fault that a load reports: a failure, and neither a file that is too long nor want of memory
+abbrev pub load_fault : {B : Type 0} → Result B LoadFault → Option LoadFault
+load_fault (Ok _) = None
+load_fault (Err load.Failed) = Some load.Failed
+load_fault (Err load.TooLong) = None
+load_fault (Err load.Memory) = None
+
+-- the fault that a store or a put reports: a failure, and not want of memory
+abbrev pub edge_fault : {U : Type 0} → Result U EdgeFault → Option EdgeFault
+edge_fault (Ok _) = None
+edge_fault (Err edge.Failed) = Some edge.Failed
+edge_fault (Err edge.Memory) = None
+
+-- whether a load was refused memory
+abbrev pub load_refused : {B : Type 0} → Result B LoadFault → Bool
+load_refused (Ok _) = false
+load_refused (Err load.Failed) = false
+load_refused (Err load.TooLong) = false
+load_refused (Err load.Memory) = true
+
+-- whether a store or a put was refused memory
+abbrev pub edge_refused : {U : Type 0} → Result U EdgeFault → Bool
+edge_refused (Ok _) = false
+edge_refused (Err edge.Failed) = false
+edge_refused (Err edge.Memory) = true
+
+-- unless it was refused memory, a call reports a fault exactly where it is to fail
+abbrev pub FailsIf : {F : Type 0} → Bool → Bool → Option F → Type 0
+FailsIf fails true reported = Unit {0}
+FailsIf fails false None = fails ≡ false
+FailsIf fails false (Some fault) = fails ≡ true
+
+-- the same of a load
 abbrev pub LoadFailsIf : {B : Type 0} → Bool → Result B LoadFault → Type 0
-LoadFailsIf fails (Ok _) = fails ≡ false
-LoadFailsIf fails (Err load.Failed) = fails ≡ true
-LoadFailsIf fails (Err load.TooLong) = fails ≡ false
-LoadFailsIf fails (Err load.Memory) = Unit {0}
+LoadFailsIf fails result = FailsIf fails (load_refused result) (load_fault result)
 
--- a store or a put fails exactly where it is to fail; memory can be refused to any
+-- the same of a store or a put
 abbrev pub EdgeFailsIf : {U : Type 0} → Bool → Result U EdgeFault → Type 0
-EdgeFailsIf fails (Ok _) = fails ≡ false
-EdgeFailsIf fails (Err edge.Failed) = fails ≡ true
-EdgeFailsIf fails (Err edge.Memory) = Unit {0}
-
--- the number of calls after a load: a load that is refused memory is no call
-abbrev pub calls_after_load : {B : Type 0} → Result B LoadFault → ℕ → ℕ
-calls_after_load (Ok _) calls = next_count calls
-calls_after_load (Err load.Failed) calls = next_count calls
-calls_after_load (Err load.TooLong) calls = next_count calls
-calls_after_load (Err load.Memory) calls = calls
-
--- the number of calls after a store or a put: one that is refused memory is no call
-abbrev pub calls_after_edge : {U : Type 0} → Result U EdgeFault → ℕ → ℕ
-calls_after_edge (Ok _) calls = next_count calls
-calls_after_edge (Err edge.Failed) calls = next_count calls
-calls_after_edge (Err edge.Memory) calls = calls
-
--- whether a number stands in a list
-abbrev pub is_listed : ℕ → List ℕ → Bool
-is_listed n numbers = list_any (λ k. nat_eq k n) numbers
-
--- the count after a load that counts one fault where it fails
-abbrev pub count_after_load : {B : Type 0} → Result B LoadFault → ℕ → ℕ
-count_after_load (Ok _) count = count
-count_after_load (Err load.Failed) count = next_count count
-count_after_load (Err load.TooLong) count = count
-count_after_load (Err load.Memory) count = count
-
--- the count after a store or a put that counts one fault where it fails
-abbrev pub count_after_edge : {U : Type 0} → Result U EdgeFault → ℕ → ℕ
-count_after_edge (Ok _) count = count
-count_after_edge (Err edge.Failed) count = next_count count
-count_after_edge (Err edge.Memory) count = count
+EdgeFailsIf fails result = FailsIf fails (edge_refused result) (edge_fault result)

@@ -1,4 +1,6 @@
+pub mod Calls
 pub mod Faults
+pub mod FileShelf
 pub mod MemoryShelf
 pub mod MemorySink
 pub mod OutSink

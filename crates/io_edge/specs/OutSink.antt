@@ -1,3 +1,4 @@
+-- what a sink over a stream keeps
 use Rattle.std.specs.Prelude.{ℕ}
 use Rattle.io_edge.specs.declared.out_sink.OutSink.{OutSink}
 

@@ -1,7 +1,10 @@
-use Rattle.std.specs.Prelude.{◌≡◌, ◌≢◌, ℕ, ◌≤◌, ◌<◌, length, List, [], ◌∷◌, ◌++◌, Option, None, Some, Result, Ok, Err, IfSome, IsSomeAnd, option_map}
+-- what shelves tell of their files and of the names of their calls
+use Rattle.std.specs.Prelude.{◌≡◌, ◌≢◌, ℕ, ◌≤◌, ◌<◌, length, Bool, true, false, List, [], ◌∷◌, ◌++◌, Option, None, Some, Result, Ok, Err, IfSome, IsSomeAnd, Vec, option_map}
 use Rattle.std.specs.Ordering.{nat_cmp}
 use Rattle.std.specs.Cmp.Lexicographic.{slice_cmp}
 use Rattle.std.specs.FinMap.{FinMap, get, insert}
+use Rattle.std.specs.declared.alloc.Global.{Global}
+use Rattle.io_edge.specs.Faults.{edge_refused, load_refused}
 use Rattle.io_edge.specs.declared.faults.LoadFault.{LoadFault}
 use Rattle.io_edge.specs.declared.faults.LoadFault.TheVariants as load
 use Rattle.io_edge.specs.declared.faults.EdgeFault.{EdgeFault}
@@ -11,22 +14,18 @@ use Rattle.io_edge.specs.declared.faults.EdgeFault.TheVariants as edge
 abbrev pub FileTable : Type 0
 FileTable = FinMap (slice_cmp nat_cmp) (List ℕ)
 
--- the names of the calls so far, where they are told, and this one
-abbrev pub with_name : Option (List (List ℕ)) → List ℕ → Option (List (List ℕ))
-with_name names name = option_map (λ known. known ++ name ∷ []) names
+-- the names of the calls so far, where they are told, after a call of this name; one that was refused memory puts none to them
+abbrev pub names_after : Bool → Option (List (List ℕ)) → List ℕ → Option (List (List ℕ))
+names_after true names name = names
+names_after false names name = option_map (λ known. known ++ name ∷ []) names
 
--- every load but one that is refused memory puts its name to the list
+-- the same after a load
 abbrev pub names_after_load : {B : Type 0} → Result B LoadFault → Option (List (List ℕ)) → List ℕ → Option (List (List ℕ))
-names_after_load (Ok _) names name = with_name names name
-names_after_load (Err load.Failed) names name = with_name names name
-names_after_load (Err load.TooLong) names name = with_name names name
-names_after_load (Err load.Memory) names name = names
+names_after_load result names name = names_after (load_refused result) names name
 
--- every store but one that is refused memory puts its name to the list
+-- and after a store
 abbrev pub names_after_store : {U : Type 0} → Result U EdgeFault → Option (List (List ℕ)) → List ℕ → Option (List (List ℕ))
-names_after_store (Ok _) names name = with_name names name
-names_after_store (Err edge.Failed) names name = with_name names name
-names_after_store (Err edge.Memory) names name = names
+names_after_store result names name = names_after (edge_refused result) names name
 
 -- these bytes stand under the name, where the files are told
 abbrev pub Holds : Option FileTable → List ℕ → List ℕ → Type 0
@@ -37,11 +36,11 @@ abbrev pub IsOver : Option FileTable → List ℕ → ℕ → Type 0
 IsOver files name limit = IfSome files (λ table. IsSomeAnd (get table name) (λ bytes. limit < length bytes))
 
 -- what a load answers: the bytes under the name where they are within the limit, and TooLong where they are more
-abbrev pub LoadGives : {B : Type 0} → (B → List ℕ) → Option FileTable → List ℕ → ℕ → Result B LoadFault → Type 0
-LoadGives bytes_of files name limit (Ok loaded) = Holds files name (bytes_of loaded) × (length (bytes_of loaded) ≤ limit)
-LoadGives bytes_of files name limit (Err load.Failed) = Unit {0}
-LoadGives bytes_of files name limit (Err load.TooLong) = IsOver files name limit
-LoadGives bytes_of files name limit (Err load.Memory) = Unit {0}
+abbrev pub LoadGives : Option FileTable → List ℕ → ℕ → Result (Vec ℕ Global) LoadFault → Type 0
+LoadGives files name limit (Ok loaded) = Holds files name loaded.items × (length loaded.items ≤ limit)
+LoadGives files name limit (Err load.Failed) = Unit {0}
+LoadGives files name limit (Err load.TooLong) = IsOver files name limit
+LoadGives files name limit (Err load.Memory) = Unit {0}
 
 -- every other name holds what it held
 abbrev pub OthersStay : Option FileTable → Option FileTable → List ℕ → Type 0

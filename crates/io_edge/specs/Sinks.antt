@@ -1,3 +1,4 @@
+-- what a sink tells of what is written
 use Rattle.std.specs.Prelude.{◌≡◌, ℕ, List, ◌++◌, take, Option, Result, Ok, Err, option_map}
 use Rattle.io_edge.specs.declared.faults.EdgeFault.{EdgeFault}
 use Rattle.io_edge.specs.declared.faults.EdgeFault.TheVariants as edge

@@ -1,3 +1,4 @@
+-- what goes to a stream and comes from one, where the stream tells its bytes
 use Rattle.std.specs.Prelude.{◌≡◌, ℕ, ◌≤◌, ◌<◌, length, take, List, Bool, true, false, Option, Result, Ok, Err, IfSome}
 use Rattle.std.specs.Io.KnownBytes.{Appends, Keeps}
 use Rattle.io_edge.specs.declared.faults.LoadFault.{LoadFault}
@@ -22,7 +23,7 @@ ReadsWithin bytes_of left limit (Err load.TooLong) = IfSome left (λ rest. limit
 ReadsWithin bytes_of left limit (Err load.Memory) = Unit {0}
 
 -- what a put hands to a stream, where the stream tells what it holds: all bytes, or a front of them where it fails
-abbrev pub PutTakes : {U : Type 0} → Option (List ℕ) → Option (List ℕ) → List ℕ → Result U EdgeFault → Type 0
-PutTakes old new bytes (Ok _) = Appends old new bytes
-PutTakes old new bytes (Err edge.Failed) = TakesFront old new bytes
-PutTakes old new bytes (Err edge.Memory) = Keeps old new
+abbrev pub PutTakes : {W U : Type 0} → (W → Option (List ℕ)) → W → W → List ℕ → Result U EdgeFault → Type 0
+PutTakes contents old new bytes (Ok _) = Appends (contents old) (contents new) bytes
+PutTakes contents old new bytes (Err edge.Failed) = TakesFront (contents old) (contents new) bytes
+PutTakes contents old new bytes (Err edge.Memory) = Keeps (contents old) (contents new)

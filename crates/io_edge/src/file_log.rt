@@ -1,11 +1,14 @@
-ghost use Rattle.std.specs.Prelude.{◌≡◌, OnErr, OnOk};
+ghost use Rattle.std.specs.Prelude.{◌≡◌, OnErr, OnOk, Some, is_none};
 ghost use Rattle.std.specs.FinMap as map;
 ghost use Rattle.std.specs.Option.{option_copied};
+ghost use Rattle.io_edge.specs.Faults.{LoadFailsIf};
+ghost use Rattle.io_edge.specs.Shelves.{LoadGives};
 
+use crate::faults::LoadFault;
 use std::alloc::{AllocError, Global};
 use std::collections::VecDeque;
 use std::marker::Model;
-use wide_num::Text;
+use wide_num::{List, Text};
 
 // What was stored under names, the newest first. Contracts see the map from a
 // name to what was stored last.
@@ -54,5 +57,22 @@ impl FileLog {
             }
         }
         None
+    }
+
+    // A copy of the bytes under a name, of which there are at most `limit`.
+    pub fn load(&self, alloc: Global, name: &[u8], limit: usize) -> Result<Vec<u8>, LoadFault>
+        ensures gives { LoadGives (Some self.now) name.now limit result }
+        ensures fails { LoadFailsIf (is_none (map.get self.now name.now)) result }
+    {
+        let Some(bytes) = self.get(name) else {
+            return Err(LoadFault::Failed);
+        };
+        if limit < bytes.len() {
+            return Err(LoadFault::TooLong);
+        }
+        let Ok(copy) = List::from_slice(alloc, bytes) else {
+            return Err(LoadFault::Memory);
+        };
+        Ok(copy.into_vec())
     }
 }

@@ -2,7 +2,7 @@ ghost use Rattle.std.specs.Prelude.{◌≡◌};
 
 use crate::faults::{EdgeFault, LoadFault};
 use crate::shelves::Shelf;
-use crate::streams::{read_within, write_whole};
+use crate::streams::{put_counted, read_counted};
 use std::alloc::Global;
 use std::fs;
 use std::rt::Files;
@@ -26,38 +26,43 @@ impl<'a, R: Files> FileShelf<'a, R> {
 }
 
 impl<'a, R: Files> Shelf for FileShelf<'a, R> {
-    ghost use Rattle.std.specs.Prelude.{None};
+    ghost use Rattle.std.specs.Prelude.{false};
+    ghost use Rattle.io_edge.specs.Faults.{Counts, CountsOne, edge_fault, edge_refused, load_fault};
+    ghost use Rattle.io_edge.specs.FileShelf.{count_of, files_of, names_of};
+    ghost use Rattle.io_edge.specs.Shelves.{LoadGives, StoreLeaves, names_after_load, names_after_store};
 
-    ghost files = { λ _. None };
+    ghost files = { λ shelf. files_of shelf };
 
-    ghost names = { λ _. None };
+    ghost names = { λ shelf. names_of shelf };
 
-    ghost count = { λ shelf. shelf.faults };
+    ghost count = { λ shelf. count_of shelf };
 
-    fn load(&mut self, alloc: Global, name: &str, limit: usize) -> Result<Vec<u8>, LoadFault> {
+    fn load(&mut self, alloc: Global, name: &str, limit: usize) -> Result<Vec<u8>, LoadFault>
+        ensures gives { LoadGives (files_of self.old) name.now limit result }
+        ensures files { files_of self.new ≡ files_of self.old }
+        ensures names { names_of self.new ≡ names_after_load result (names_of self.old) name.now }
+        ensures count { Counts (count_of self.old) (count_of self.new) (load_fault result) }
+        ensures one_fault { CountsOne (count_of self.old) (count_of self.new) (load_fault result) }
+    {
         let Ok(mut file) = fs::open(self.rt, name) else {
             self.faults = self.faults.saturating_add(1);
             return Err(LoadFault::Failed);
         };
-        match read_within(alloc, &mut file, limit) {
-            Err(LoadFault::Failed) => {
-                self.faults = self.faults.saturating_add(1);
-                Err(LoadFault::Failed)
-            }
-            answer => answer,
-        }
+        read_counted(alloc, &mut file, limit, &mut self.faults)
     }
 
-    fn store(&mut self, name: &str, bytes: &[u8]) -> Result<(), EdgeFault> {
+    fn store(&mut self, name: &str, bytes: &[u8]) -> Result<(), EdgeFault>
+        ensures files { StoreLeaves (files_of self.old) (files_of self.new) name.now bytes.now result }
+        ensures names { names_of self.new ≡ names_after_store result (names_of self.old) name.now }
+        ensures count { Counts (count_of self.old) (count_of self.new) (edge_fault result) }
+        ensures one_fault { CountsOne (count_of self.old) (count_of self.new) (edge_fault result) }
+        ensures never_refused { edge_refused result ≡ false }
+    {
         let Ok(mut file) = fs::create(self.rt, name) else {
             self.faults = self.faults.saturating_add(1);
             return Err(EdgeFault::Failed);
         };
-        if write_whole(&mut file, bytes) {
-            return Ok(());
-        }
-        self.faults = self.faults.saturating_add(1);
-        Err(EdgeFault::Failed)
+        put_counted(&mut file, bytes, &mut self.faults)
     }
 
     fn faults(&self) -> u64 {

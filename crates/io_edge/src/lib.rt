@@ -2,7 +2,8 @@
 //! behind them: files and streams, and shelves and sinks in memory.
 #![tactic(auto)]
 
-mod copies;
+mod call_names;
+mod calls;
 mod faults;
 mod file_log;
 mod file_shelf;

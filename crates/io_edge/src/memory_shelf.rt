@@ -2,7 +2,8 @@ ghost use Rattle.std.specs.Prelude.{◌≡◌, [], OnErr, OnOk};
 ghost use Rattle.std.specs.FinMap as map;
 ghost use Rattle.std.specs.Option.{option_copied};
 
-use crate::copies::{copy_of, push_name};
+use crate::call_names::push_name;
+use crate::calls::Calls;
 use crate::faults::{EdgeFault, LoadFault};
 use crate::file_log::FileLog;
 use crate::shelves::Shelf;
@@ -14,19 +15,18 @@ use wide_num::{List, Text};
 ///
 /// The calls are its loads and stores, counted from 1; one that is refused
 /// memory is no call, and leaves all as it was. A call that fails leaves the
-/// files. The count of calls stops at the greatest `u64`.
+/// files. It asks for memory too, for its name.
 #[derive(Drop)]
 pub struct MemoryShelf {
     alloc: Global,
     files: FileLog,
     names: List<Text>,
-    calls: u64,
-    failing: Vec<u64>,
-    faults: u64,
+    calls: Calls,
 }
 
 impl MemoryShelf {
-    ghost use Rattle.io_edge.specs.MemoryShelf.{calls_of, failing_of, files_of, with_file};
+    ghost use Rattle.io_edge.specs.MemoryShelf.{calls_of, files_of, with_file};
+    ghost use Rattle.io_edge.specs.Calls.{no_calls};
 
     /// A shelf without files, calls and faults, and the numbers of the calls
     /// that are to fail. It takes no memory.
@@ -34,16 +34,13 @@ impl MemoryShelf {
         ensures files { ⟦<MemoryShelf as Shelf>⟧.files result ≡ Some map.empty }
         ensures names { ⟦<MemoryShelf as Shelf>⟧.names result ≡ Some [] }
         ensures count { ⟦<MemoryShelf as Shelf>⟧.count result ≡ 0 }
-        ensures calls { calls_of result ≡ 0 }
-        ensures failing { failing_of result ≡ failing.items }
+        ensures calls { calls_of result ≡ no_calls failing }
     {
         MemoryShelf {
             alloc,
             files: FileLog::new(alloc),
             names: List::new(alloc),
-            calls: 0,
-            failing,
-            faults: 0,
+            calls: Calls::new(failing),
         }
     }
 
@@ -53,10 +50,10 @@ impl MemoryShelf {
         ensures ok { OnOk result (self.new ≡ with_file self.old name.now bytes.now) }
         ensures err { OnErr result (self.new ≡ self.old) }
     {
-        let Ok(key) = copy_of(self.alloc, name.as_bytes()) else {
+        let Ok(key) = List::from_slice(self.alloc, name.as_bytes()) else {
             return Err(AllocError);
         };
-        let Ok(copy) = copy_of(self.alloc, bytes) else {
+        let Ok(copy) = List::from_slice(self.alloc, bytes) else {
             return Err(AllocError);
         };
         self.files.insert(key, copy)
@@ -72,88 +69,67 @@ impl MemoryShelf {
 
 impl Shelf for MemoryShelf {
     ghost use Rattle.std.specs.Prelude.{Some};
-    ghost use Rattle.io_edge.specs.Faults.{CountsEdge, CountsLoad, EdgeFailsIf, LoadFailsIf, calls_after_edge, calls_after_load, count_after_edge, count_after_load};
+    ghost use Rattle.io_edge.specs.Faults.{Counts, EdgeFailsIf, LoadFailsIf, edge_fault, load_fault};
     ghost use Rattle.io_edge.specs.Shelves.{LoadGives, StoreLeaves, names_after_load, names_after_store};
-    ghost use Rattle.io_edge.specs.MemoryShelf.{calls_of, count_of, failing_of, fails_load, fails_next, files_of, names_of};
+    ghost use Rattle.io_edge.specs.MemoryShelf.{calls_of, count_of, fails_load, files_of, told_files, told_names};
+    ghost use Rattle.io_edge.specs.Calls.{after_edge, after_load, fails_next};
 
-    ghost files = { λ shelf. Some shelf.files };
+    ghost files = { λ shelf. told_files shelf };
 
-    ghost names = { λ shelf. Some shelf.names };
+    ghost names = { λ shelf. told_names shelf };
 
-    ghost count = { λ shelf. shelf.faults };
+    ghost count = { λ shelf. count_of shelf };
 
     fn load(&mut self, alloc: Global, name: &str, limit: usize) -> Result<Vec<u8>, LoadFault>
-        ensures gives { LoadGives (λ loaded. loaded.items) (Some (files_of self.old)) name.now limit result }
-        ensures files { Some (files_of self.new) ≡ Some (files_of self.old) }
-        ensures names { Some (names_of self.new) ≡ names_after_load result (Some (names_of self.old)) name.now }
-        ensures count { CountsLoad (count_of self.old) (count_of self.new) result }
-        ensures one_fault { count_of self.new ≡ count_after_load result (count_of self.old) }
+        ensures gives { LoadGives (told_files self.old) name.now limit result }
+        ensures files { told_files self.new ≡ told_files self.old }
+        ensures names { told_names self.new ≡ names_after_load result (told_names self.old) name.now }
+        ensures count { Counts (count_of self.old) (count_of self.new) (load_fault result) }
         ensures fails { LoadFailsIf (fails_load self.old name.now) result }
-        ensures calls { calls_of self.new ≡ calls_after_load result (calls_of self.old) }
-        ensures failing { failing_of self.new ≡ failing_of self.old }
+        ensures calls { calls_of self.new ≡ after_load result (calls_of self.old) }
     {
-        let call = self.calls.saturating_add(1);
-        if self.failing.contains(&call) {
-            let Ok(()) = push_name(self.alloc, &mut self.names, name) else {
-                return Err(LoadFault::Memory);
-            };
-            self.calls = call;
-            self.faults = self.faults.saturating_add(1);
-            return Err(LoadFault::Failed);
-        }
-        let Some(bytes) = self.files.get(name.as_bytes()) else {
-            let Ok(()) = push_name(self.alloc, &mut self.names, name) else {
-                return Err(LoadFault::Memory);
-            };
-            self.calls = call;
-            self.faults = self.faults.saturating_add(1);
-            return Err(LoadFault::Failed);
+        let answer = if self.calls.is_next_failing() {
+            Err(LoadFault::Failed)
+        } else {
+            self.files.load(alloc, name.as_bytes(), limit)
         };
-        if limit < bytes.len() {
-            let Ok(()) = push_name(self.alloc, &mut self.names, name) else {
-                return Err(LoadFault::Memory);
-            };
-            self.calls = call;
-            return Err(LoadFault::TooLong);
-        }
-        let Ok(copy) = copy_of(alloc, bytes) else {
+        if let Err(LoadFault::Memory) = answer {
             return Err(LoadFault::Memory);
-        };
+        }
         let Ok(()) = push_name(self.alloc, &mut self.names, name) else {
             return Err(LoadFault::Memory);
         };
-        self.calls = call;
-        Ok(copy.into_vec())
+        match answer {
+            Err(LoadFault::Failed) => self.calls.add_failed(),
+            _ => self.calls.add_done(),
+        }
+        answer
     }
 
     fn store(&mut self, name: &str, bytes: &[u8]) -> Result<(), EdgeFault>
-        ensures files { StoreLeaves (Some (files_of self.old)) (Some (files_of self.new)) name.now bytes.now result }
-        ensures names { Some (names_of self.new) ≡ names_after_store result (Some (names_of self.old)) name.now }
-        ensures count { CountsEdge (count_of self.old) (count_of self.new) result }
+        ensures files { StoreLeaves (told_files self.old) (told_files self.new) name.now bytes.now result }
+        ensures names { told_names self.new ≡ names_after_store result (told_names self.old) name.now }
+        ensures count { Counts (count_of self.old) (count_of self.new) (edge_fault result) }
         ensures kept { OnErr result (files_of self.new ≡ files_of self.old) }
-        ensures one_fault { count_of self.new ≡ count_after_edge result (count_of self.old) }
-        ensures fails { EdgeFailsIf (fails_next self.old) result }
-        ensures calls { calls_of self.new ≡ calls_after_edge result (calls_of self.old) }
-        ensures failing { failing_of self.new ≡ failing_of self.old }
+        ensures fails { EdgeFailsIf (fails_next (calls_of self.old)) result }
+        ensures calls { calls_of self.new ≡ after_edge result (calls_of self.old) }
     {
-        let call = self.calls.saturating_add(1);
         let Ok(()) = push_name(self.alloc, &mut self.names, name) else {
             return Err(EdgeFault::Memory);
         };
-        if self.failing.contains(&call) {
-            self.calls = call;
-            self.faults = self.faults.saturating_add(1);
+        if self.calls.is_next_failing() {
+            self.calls.add_failed();
             return Err(EdgeFault::Failed);
         }
         let Ok(()) = self.add(name, bytes) else {
             let _name = self.names.pop();
             return Err(EdgeFault::Memory);
         };
-        self.calls = call;
+        self.calls.add_done();
         Ok(())
     }
 
     fn faults(&self) -> u64 {
-        self.faults
+        self.calls.failed()
     }
 }

@@ -1,5 +1,6 @@
 ghost use Rattle.std.specs.Prelude.{◌≡◌, []};
 
+use crate::calls::Calls;
 use crate::faults::EdgeFault;
 use crate::sinks::Sink;
 use std::alloc::Global;
@@ -8,32 +9,28 @@ use std::alloc::Global;
 /// written.
 ///
 /// The calls are its puts, counted from 1; one that is refused memory is no
-/// call, and leaves all as it was. A call that fails keeps no byte. The count
-/// of calls stops at the greatest `u64`.
+/// call, and leaves all as it was. A call that fails keeps no byte, and is
+/// never refused memory.
 #[derive(Drop)]
 pub struct MemorySink {
     bytes: Vec<u8>,
-    calls: u64,
-    failing: Vec<u64>,
-    faults: u64,
+    calls: Calls,
 }
 
 impl MemorySink {
-    ghost use Rattle.io_edge.specs.MemorySink.{calls_of, failing_of, written_of};
+    ghost use Rattle.io_edge.specs.MemorySink.{calls_of, written_of};
+    ghost use Rattle.io_edge.specs.Calls.{no_calls};
 
     /// A sink without bytes, calls and faults, and the numbers of the calls
     /// that are to fail. It takes no memory.
     pub fn new(alloc: Global, failing: Vec<u64>) -> MemorySink
         ensures written { ⟦<MemorySink as Sink>⟧.written result ≡ Some [] }
         ensures count { ⟦<MemorySink as Sink>⟧.count result ≡ 0 }
-        ensures calls { calls_of result ≡ 0 }
-        ensures failing { failing_of result ≡ failing.items }
+        ensures calls { calls_of result ≡ no_calls failing }
     {
         MemorySink {
             bytes: Vec::new(alloc),
-            calls: 0,
-            failing,
-            faults: 0,
+            calls: Calls::new(failing),
         }
     }
 
@@ -46,38 +43,36 @@ impl MemorySink {
 }
 
 impl Sink for MemorySink {
-    ghost use Rattle.std.specs.Prelude.{Some, OnErr};
-    ghost use Rattle.io_edge.specs.Faults.{CountsEdge, EdgeFailsIf, calls_after_edge, count_after_edge};
+    ghost use Rattle.std.specs.Prelude.{Some, OnErr, false, ◌&&◌};
+    ghost use Rattle.io_edge.specs.Faults.{Counts, EdgeFailsIf, edge_fault, edge_refused};
     ghost use Rattle.io_edge.specs.Sinks.{PutLeaves};
-    ghost use Rattle.io_edge.specs.MemorySink.{calls_of, count_of, failing_of, fails_next, written_of};
+    ghost use Rattle.io_edge.specs.MemorySink.{calls_of, count_of, told, written_of};
+    ghost use Rattle.io_edge.specs.Calls.{after_edge, fails_next};
 
-    ghost written = { λ sink. Some sink.bytes.items };
+    ghost written = { λ sink. told sink };
 
-    ghost count = { λ sink. sink.faults };
+    ghost count = { λ sink. count_of sink };
 
     fn put(&mut self, bytes: &[u8]) -> Result<(), EdgeFault>
-        ensures written { PutLeaves (Some (written_of self.old)) (Some (written_of self.new)) bytes.now result }
-        ensures count { CountsEdge (count_of self.old) (count_of self.new) result }
-        ensures one_fault { count_of self.new ≡ count_after_edge result (count_of self.old) }
+        ensures written { PutLeaves (told self.old) (told self.new) bytes.now result }
+        ensures count { Counts (count_of self.old) (count_of self.new) (edge_fault result) }
         ensures kept { OnErr result (written_of self.new ≡ written_of self.old) }
-        ensures fails { EdgeFailsIf (fails_next self.old) result }
-        ensures calls { calls_of self.new ≡ calls_after_edge result (calls_of self.old) }
-        ensures failing { failing_of self.new ≡ failing_of self.old }
+        ensures fails { EdgeFailsIf (fails_next (calls_of self.old)) result }
+        ensures refused { (fails_next (calls_of self.old) && edge_refused result) ≡ false }
+        ensures calls { calls_of self.new ≡ after_edge result (calls_of self.old) }
     {
-        let call = self.calls.saturating_add(1);
-        if self.failing.contains(&call) {
-            self.calls = call;
-            self.faults = self.faults.saturating_add(1);
+        if self.calls.is_next_failing() {
+            self.calls.add_failed();
             return Err(EdgeFault::Failed);
         }
         let Ok(()) = self.bytes.extend_from_slice(bytes) else {
             return Err(EdgeFault::Memory);
         };
-        self.calls = call;
+        self.calls.add_done();
         Ok(())
     }
 
     fn faults(&self) -> u64 {
-        self.faults
+        self.calls.failed()
     }
 }

@@ -2,7 +2,7 @@ ghost use Rattle.std.specs.Prelude.{◌≡◌};
 
 use crate::faults::EdgeFault;
 use crate::sinks::Sink;
-use crate::streams::write_whole;
+use crate::streams::put_counted;
 use std::io::Write;
 
 /// A stream of bytes. It doesn't tell what is written, since no contract can
@@ -27,8 +27,8 @@ impl<W: Write> OutSink<W> {
 }
 
 impl<W: Write> Sink for OutSink<W> {
-    ghost use Rattle.std.specs.Prelude.{None};
-    ghost use Rattle.io_edge.specs.Faults.{CountsEdge, count_after_edge};
+    ghost use Rattle.std.specs.Prelude.{None, false};
+    ghost use Rattle.io_edge.specs.Faults.{Counts, CountsOne, edge_fault, edge_refused};
     ghost use Rattle.io_edge.specs.OutSink.{count_of, stream_of};
     ghost use Rattle.io_edge.specs.Sinks.{PutLeaves};
     ghost use Rattle.io_edge.specs.Streams.{PutTakes};
@@ -39,15 +39,12 @@ impl<W: Write> Sink for OutSink<W> {
 
     fn put(&mut self, bytes: &[u8]) -> Result<(), EdgeFault>
         ensures written { PutLeaves None None bytes.now result }
-        ensures count { CountsEdge (count_of self.old) (count_of self.new) result }
-        ensures one_fault { count_of self.new ≡ count_after_edge result (count_of self.old) }
-        ensures stream { PutTakes (W.contents (stream_of self.old)) (W.contents (stream_of self.new)) bytes.now result }
+        ensures count { Counts (count_of self.old) (count_of self.new) (edge_fault result) }
+        ensures one_fault { CountsOne (count_of self.old) (count_of self.new) (edge_fault result) }
+        ensures stream { PutTakes W.contents (stream_of self.old) (stream_of self.new) bytes.now result }
+        ensures never_refused { edge_refused result ≡ false }
     {
-        if write_whole(&mut self.out, bytes) {
-            return Ok(());
-        }
-        self.faults = self.faults.saturating_add(1);
-        Err(EdgeFault::Failed)
+        put_counted(&mut self.out, bytes, &mut self.faults)
     }
 
     fn faults(&self) -> u64 {

@@ -1,5 +1,5 @@
 ghost use Rattle.std.specs.Prelude.{◌≡◌, ℕ, List, Option};
-ghost use Rattle.io_edge.specs.Faults.{CountsEdge, CountsLoad};
+ghost use Rattle.io_edge.specs.Faults.{Counts, edge_fault, load_fault};
 ghost use Rattle.io_edge.specs.Shelves.{FileTable, LoadGives, StoreLeaves, names_after_load, names_after_store};
 
 use crate::faults::{EdgeFault, LoadFault};
@@ -21,10 +21,10 @@ pub trait Shelf {
     /// was counted, as it is at a name that isn't there. The files stay.
     /// `Memory` leaves the names and the count too.
     fn load(&mut self, alloc: Global, name: &str, limit: usize) -> Result<Vec<u8>, LoadFault>
-        ensures gives { LoadGives (λ loaded. loaded.items) (files self.old) name.now limit result }
+        ensures gives { LoadGives (files self.old) name.now limit result }
         ensures files { files self.new ≡ files self.old }
         ensures names { names self.new ≡ names_after_load result (names self.old) name.now }
-        ensures count { CountsLoad (count self.old) (count self.new) result };
+        ensures count { Counts (count self.old) (count self.new) (load_fault result) };
 
     /// Makes a name hold these bytes.
     ///
@@ -33,7 +33,7 @@ pub trait Shelf {
     fn store(&mut self, name: &str, bytes: &[u8]) -> Result<(), EdgeFault>
         ensures files { StoreLeaves (files self.old) (files self.new) name.now bytes.now result }
         ensures names { names self.new ≡ names_after_store result (names self.old) name.now }
-        ensures count { CountsEdge (count self.old) (count self.new) result };
+        ensures count { Counts (count self.old) (count self.new) (edge_fault result) };
 
     /// How many faults there were. It stops at the greatest `u64`.
     fn faults(&self) -> u64

@@ -1,5 +1,5 @@
 ghost use Rattle.std.specs.Prelude.{◌≡◌, ◌<◌, ℕ, List, Option, length};
-ghost use Rattle.io_edge.specs.Faults.{CountsEdge};
+ghost use Rattle.io_edge.specs.Faults.{Counts, edge_fault};
 ghost use Rattle.io_edge.specs.Sinks.{PutLeaves};
 
 use crate::faults::EdgeFault;
@@ -19,7 +19,7 @@ pub trait Sink {
     fn put(&mut self, bytes: &[u8]) -> Result<(), EdgeFault>
         requires { 0 < length bytes.now }
         ensures written { PutLeaves (written self.old) (written self.new) bytes.now result }
-        ensures count { CountsEdge (count self.old) (count self.new) result };
+        ensures count { Counts (count self.old) (count self.new) (edge_fault result) };
 
     /// How many faults there were. It stops at the greatest `u64`.
     fn faults(&self) -> u64

@@ -1,26 +1,24 @@
-ghost use Rattle.std.specs.Prelude.{◌≡◌, [], OnErr, OnOk, is_none};
+ghost use Rattle.std.specs.Prelude.{◌≡◌, [], OnErr, OnOk};
 ghost use Rattle.std.specs.FinMap as map;
 ghost use Rattle.std.specs.Option.{option_copied};
+ghost use Rattle.io_edge.specs.Calls.{failing_of};
+ghost use Rattle.io_edge.specs.MemoryShelf.{calls_of};
 
-use crate::copies::{copy_of, push_name};
 use crate::faults::{EdgeFault, LoadFault};
-use crate::file_log::FileLog;
+use crate::memory_shelf::MemoryShelf;
 use crate::shelves::Shelf;
 use std::alloc::{AllocError, Global};
-use wide_num::{List, Text};
 
-/// A shelf in memory whose calls fail only at a load of a name that isn't
-/// there. It tells its files and its names.
+/// A shelf in memory with no call that is to fail, so that only a load of a
+/// name that isn't there fails. It tells its files and its names.
 #[derive(Drop)]
 pub struct SureShelf {
-    alloc: Global,
-    files: FileLog,
-    names: List<Text>,
-    faults: u64,
+    shelf: MemoryShelf,
+    ghost sure: { failing_of (calls_of shelf) ≡ [] },
 }
 
 impl SureShelf {
-    ghost use Rattle.io_edge.specs.SureShelf.{files_of, with_file};
+    ghost use Rattle.io_edge.specs.SureShelf.{IsWithFile, files_of};
 
     /// A shelf without files, calls and faults. It takes no memory.
     pub fn new(alloc: Global) -> SureShelf
@@ -29,95 +27,60 @@ impl SureShelf {
         ensures count { ⟦<SureShelf as Shelf>⟧.count result ≡ 0 }
     {
         SureShelf {
-            alloc,
-            files: FileLog::new(alloc),
-            names: List::new(alloc),
-            faults: 0,
+            shelf: MemoryShelf::new(alloc, Vec::new(alloc)),
         }
     }
 
     /// Makes a name hold these bytes; this is no call. A shelf that is refused
     /// memory stays as it was.
     pub fn add(&mut self, name: &str, bytes: &[u8]) -> Result<(), AllocError>
-        ensures ok { OnOk result (self.new ≡ with_file self.old name.now bytes.now) }
+        ensures ok { OnOk result (IsWithFile self.old name.now bytes.now self.new) }
         ensures err { OnErr result (self.new ≡ self.old) }
     {
-        let Ok(key) = copy_of(self.alloc, name.as_bytes()) else {
-            return Err(AllocError);
-        };
-        let Ok(copy) = copy_of(self.alloc, bytes) else {
-            return Err(AllocError);
-        };
-        self.files.insert(key, copy)
+        self.shelf.add(name, bytes)
     }
 
     /// The bytes under a name. None comes exactly where it isn't there.
     pub fn file(&self, name: &str) -> Option<&[u8]>
         ensures { option_copied result ≡ map.get (files_of self.now) name.now }
     {
-        self.files.get(name.as_bytes())
+        self.shelf.file(name)
     }
 }
 
 impl Shelf for SureShelf {
-    ghost use Rattle.std.specs.Prelude.{Some, false};
-    ghost use Rattle.io_edge.specs.Faults.{CountsEdge, CountsLoad, EdgeFailsIf, LoadFailsIf, count_after_load};
+    ghost use Rattle.std.specs.Prelude.{Some, false, is_none};
+    ghost use Rattle.io_edge.specs.Faults.{Counts, CountsOne, EdgeFailsIf, LoadFailsIf, edge_fault, load_fault};
     ghost use Rattle.io_edge.specs.Shelves.{LoadGives, StoreLeaves, names_after_load, names_after_store};
-    ghost use Rattle.io_edge.specs.SureShelf.{count_of, files_of, names_of};
+    ghost use Rattle.io_edge.specs.SureShelf.{count_of, files_of, told_files, told_names};
 
-    ghost files = { λ shelf. Some shelf.files };
+    ghost files = { λ shelf. told_files shelf };
 
-    ghost names = { λ shelf. Some shelf.names };
+    ghost names = { λ shelf. told_names shelf };
 
-    ghost count = { λ shelf. shelf.faults };
+    ghost count = { λ shelf. count_of shelf };
 
     fn load(&mut self, alloc: Global, name: &str, limit: usize) -> Result<Vec<u8>, LoadFault>
-        ensures gives { LoadGives (λ loaded. loaded.items) (Some (files_of self.old)) name.now limit result }
-        ensures files { Some (files_of self.new) ≡ Some (files_of self.old) }
-        ensures names { Some (names_of self.new) ≡ names_after_load result (Some (names_of self.old)) name.now }
-        ensures count { CountsLoad (count_of self.old) (count_of self.new) result }
-        ensures one_fault { count_of self.new ≡ count_after_load result (count_of self.old) }
+        ensures gives { LoadGives (told_files self.old) name.now limit result }
+        ensures files { told_files self.new ≡ told_files self.old }
+        ensures names { told_names self.new ≡ names_after_load result (told_names self.old) name.now }
+        ensures count { Counts (count_of self.old) (count_of self.new) (load_fault result) }
+        ensures one_fault { CountsOne (count_of self.old) (count_of self.new) (load_fault result) }
         ensures fails { LoadFailsIf (is_none (map.get (files_of self.old) name.now)) result }
     {
-        let Some(bytes) = self.files.get(name.as_bytes()) else {
-            let Ok(()) = push_name(self.alloc, &mut self.names, name) else {
-                return Err(LoadFault::Memory);
-            };
-            self.faults = self.faults.saturating_add(1);
-            return Err(LoadFault::Failed);
-        };
-        if limit < bytes.len() {
-            let Ok(()) = push_name(self.alloc, &mut self.names, name) else {
-                return Err(LoadFault::Memory);
-            };
-            return Err(LoadFault::TooLong);
-        }
-        let Ok(copy) = copy_of(alloc, bytes) else {
-            return Err(LoadFault::Memory);
-        };
-        let Ok(()) = push_name(self.alloc, &mut self.names, name) else {
-            return Err(LoadFault::Memory);
-        };
-        Ok(copy.into_vec())
+        self.shelf.load(alloc, name, limit)
     }
 
     fn store(&mut self, name: &str, bytes: &[u8]) -> Result<(), EdgeFault>
-        ensures files { StoreLeaves (Some (files_of self.old)) (Some (files_of self.new)) name.now bytes.now result }
-        ensures names { Some (names_of self.new) ≡ names_after_store result (Some (names_of self.old)) name.now }
-        ensures count { CountsEdge (count_of self.old) (count_of self.new) result }
+        ensures files { StoreLeaves (told_files self.old) (told_files self.new) name.now bytes.now result }
+        ensures names { told_names self.new ≡ names_after_store result (told_names self.old) name.now }
+        ensures count { Counts (count_of self.old) (count_of self.new) (edge_fault result) }
         ensures fails { EdgeFailsIf false result }
     {
-        let Ok(()) = push_name(self.alloc, &mut self.names, name) else {
-            return Err(EdgeFault::Memory);
-        };
-        let Ok(()) = self.add(name, bytes) else {
-            let _name = self.names.pop();
-            return Err(EdgeFault::Memory);
-        };
-        Ok(())
+        self.shelf.store(name, bytes)
     }
 
     fn faults(&self) -> u64 {
-        self.faults
+        self.shelf.faults()
     }
 }

@@ -2,7 +2,9 @@ use crate::{
     EdgeFault, FileShelf, LoadFault, MemoryShelf, MemorySink, OutSink, Shelf, Sink, SureShelf,
     SureSink,
 };
+use std::alloc::Global;
 use std::fs;
+use std::io::{self, Write};
 use std::test::Fail;
 
 fn is_answer(got: &Result<Vec<u8>, LoadFault>, want: Result<&[u8], LoadFault>) -> bool {
@@ -87,12 +89,52 @@ fn sinks_take_pieces(rt: HostRuntime) -> Result<(), Fail> {
     Ok(())
 }
 
+// A stream that takes one byte a call, and none when it holds so many.
+#[derive(Drop)]
+struct Narrow {
+    held: Vec<u8>,
+    room: usize,
+}
+
+impl Write for Narrow {
+    fn write(&mut self, bytes: &[u8]) -> io::Result<usize> {
+        if self.held.len() >= self.room || bytes.is_empty() {
+            return Ok(0);
+        }
+        self.held.extend_from_slice(&bytes[..1])?;
+        Ok(1)
+    }
+
+    fn flush(&mut self) -> io::Result<()> {
+        Ok(())
+    }
+}
+
+fn make_narrow(alloc: Global, room: usize) -> Narrow {
+    Narrow {
+        held: Vec::new(alloc),
+        room,
+    }
+}
+
 #[test]
-fn a_full_stream_is_a_fault(rt: HostRuntime) {
-    let mut room = [0u8; 2];
-    let mut stream = OutSink::new(&mut room[..]);
-    assert_eq!(rt; stream.put(b"abc"), Err(EdgeFault::Failed));
-    assert_eq!(rt; stream.faults(), 1);
+fn a_short_write_is_no_fault(rt: HostRuntime) {
+    let mut stream = make_narrow(rt.alloc(), 9);
+    let mut sink = OutSink::new(&mut stream);
+    assert_eq!(rt; sink.put(b"abcd"), Ok(()));
+    assert_eq!(rt; sink.put(b"ef"), Ok(()));
+    assert_eq!(rt; sink.faults(), 0);
+    assert_eq!(rt; stream.held.as_slice(), "abcdef".as_bytes());
+}
+
+#[test]
+fn a_write_of_none_is_a_fault(rt: HostRuntime) {
+    let mut stream = make_narrow(rt.alloc(), 3);
+    let mut sink = OutSink::new(&mut stream);
+    assert_eq!(rt; sink.put(b"abcd"), Err(EdgeFault::Failed));
+    assert_eq!(rt; sink.put(b"e"), Err(EdgeFault::Failed));
+    assert_eq!(rt; sink.faults(), 2);
+    assert_eq!(rt; stream.held.as_slice(), "abc".as_bytes());
 }
 
 #[test]

@@ -3,3 +3,4 @@ pub mod Found
 pub mod Numbered
 pub mod Runs
 pub mod Whole
+pub mod Turns

@@ -1,3 +1,4 @@
+-- the parts of bytes between separators, from a place on
 use Rattle.std.proofs.Common.{◌≡◌, ℕ, ◌+◌, ◌-◌, ◌≤◌, Bool, List, [], ◌∷◌, ◌++◌, length, take, drop, position, Some, None, refl, ap, ◌∙◌, arith, append_assoc, append-nil, sym}
 use Rattle.std.specs.List.{slice_split}
 use Rattle.std.proofs.lemmas.Grind.{common_steps}

@@ -1,3 +1,4 @@
+-- the lines of a file have fields in it, and stand in the order of their numbers
 use Rattle.std.proofs.Common.{◌≡◌, ℕ, ◌+◌, ◌<◌, ◌≤◌, suc, zero, Bool, true, false, ◌&&◌, List, [], ◌∷◌, ◌++◌, length, take, drop, position, Option, Some, None, Result, Ok, Err, IfOk, refl, sym, ap, ◌∙◌, ◌⊎◌, inl, inr, subst, if◌then◌else◌, arith}
 use Rattle.std.specs.List.{All, AllPairs, slice_split, onto_first, list_all}
 use Rattle.std.specs.Option.{option_to_list}
@@ -134,10 +135,10 @@ are_lines (suc n) number at bytes lines many within is =
 all_lines : (bytes : List ℕ) (lines : List Line) → lines_of bytes ≡ Ok lines → AreLines 1 bytes lines
 all_lines bytes lines e = are_lines (length bytes) 1 0 bytes lines (omega arith) (omega arith) e
 
-pub whole_within : (bytes : List ℕ) (read : Result (List Line) LineFault) → Gives read (lines_of bytes) → IfOk read (All (IsLineOf bytes))
-whole_within bytes (Ok lines) h = All-weaker (IsLineFrom 1 bytes) (IsLineOf bytes) (λ line f. f.1) lines (all_lines bytes lines h).each
-whole_within bytes (Err fault) h = tt
+pub whole_within : (asked : Bool) (bytes : List ℕ) (read : Result (List Line) LineFault) → Gives asked (lines_of bytes) read → IfOk read (All (IsLineOf bytes))
+whole_within asked bytes (Ok lines) h = All-weaker (IsLineFrom 1 bytes) (IsLineOf bytes) (λ line f. f.1) lines (all_lines bytes lines h).each
+whole_within asked bytes (Err fault) h = tt
 
-pub whole_rise : (bytes : List ℕ) (read : Result (List Line) LineFault) → Gives read (lines_of bytes) → IfOk read (AllPairs IsAbove)
-whole_rise bytes (Ok lines) h = (all_lines bytes lines h).rise
-whole_rise bytes (Err fault) h = tt
+pub whole_rise : (asked : Bool) (bytes : List ℕ) (read : Result (List Line) LineFault) → Gives asked (lines_of bytes) read → IfOk read (AllPairs IsAbove)
+whole_rise asked bytes (Ok lines) h = (all_lines bytes lines h).rise
+whole_rise asked bytes (Err fault) h = tt

@@ -1,4 +1,5 @@
-use Rattle.std.specs.Prelude.{◌≡◌, ℕ, ◌+◌, ◌-◌, ◌<◌, Bool, false, not, ◌&&◌, ◌||◌, List, [], ◌∷◌, ◌++◌, length, take, slice_get, nat_le, nat_lt, ◌==◌, Option, None, Some, Result, Ok, Err, if◌then◌else◌}
+-- what the lines of a file are read as
+use Rattle.std.specs.Prelude.{◌≡◌, ℕ, ◌+◌, ◌-◌, ◌<◌, Bool, true, false, not, ◌&&◌, ◌||◌, List, [], ◌∷◌, ◌++◌, length, take, slice_get, nat_le, nat_lt, ◌==◌, Option, None, Some, Result, Ok, Err, if◌then◌else◌}
 use Rattle.std.specs.List.{slice_split, list_all, All}
 use Rattle.std.specs.Option.{option_to_list}
 use Rattle.line_core.specs.Fields.{is_blank, span_text, fields_at, IsSpanOf}
@@ -42,11 +43,15 @@ ends_with_return text = is_return (slice_get text (length text - 1))
 abbrev pub without_return : List ℕ → List ℕ
 without_return text = if ends_with_return text then take (length text - 1) text else text
 
+-- the greatest number of bytes of a line
+abbrev pub max_line_bytes : ℕ
+max_line_bytes = 1024
+
 -- what a text is read as, given its number and the place of its first byte: a comment as no line
 abbrev pub read_line : ℕ → ℕ → List ℕ → Result (Option Line) LineFault
 read_line number start text =
     if is_comment text then Ok None
-    else (if nat_lt 1024 (length text) then Err (TooLong number)
+    else (if nat_lt max_line_bytes (length text) then Err (TooLong number)
     else (if is_plain text then Ok (Some (record { number = number; header = is_header text; fields = fields_at start text }))
     else Err (NotAscii number)))
 
@@ -72,6 +77,23 @@ fault_or_lines (Ok line ∷ rest) = after_lines (option_to_list line) (fault_or_
 abbrev pub lines_of : List ℕ → Result (List Line) LineFault
 lines_of bytes = fault_or_lines (read_parts 1 0 (slice_split is_newline bytes))
 
+-- whether a text is read as a line, which has fields
+abbrev pub is_line : Result (Option Line) LineFault → Bool
+is_line (Ok None) = false
+is_line (Ok (Some line)) = true
+is_line (Err fault) = false
+
+-- whether a line is read before the first fault
+abbrev pub has_line : List (Result (Option Line) LineFault) → Bool
+has_line [] = false
+has_line (Err fault ∷ rest) = false
+has_line (Ok None ∷ rest) = has_line rest
+has_line (Ok (Some line) ∷ rest) = true
+
+-- memory is asked for lines alone: a file is refused it only where a line is read before its first fault
+abbrev pub may_want_memory : List ℕ → Bool
+may_want_memory bytes = has_line (read_parts 1 0 (slice_split is_newline bytes))
+
 -- a line of a file: it has a field, and each of its fields is a span of the file
 abbrev pub IsLineOf : List ℕ → Line → Type 0
 IsLineOf bytes line = (0 < length line.fields) × All (IsSpanOf bytes) line.fields
@@ -80,12 +102,28 @@ IsLineOf bytes line = (0 < length line.fields) × All (IsSpanOf bytes) line.fiel
 abbrev pub IsAbove : Line → Line → Type 0
 IsAbove upper lower = upper.number < lower.number
 
--- the answer is this one, or memory ran out
-abbrev pub Gives : {X : Type 0} → Result X LineFault → Result X LineFault → Type 0
-Gives (Ok value) read = read ≡ Ok value
-Gives (Err (NotAscii line)) read = read ≡ Err (NotAscii line)
-Gives (Err (TooLong line)) read = read ≡ Err (TooLong line)
-Gives (Err Memory) read = Unit {0}
+-- a fault that is answered: the one that is read, or want of memory where it is asked for
+abbrev pub IsFaultOf : {X : Type 0} → Bool → Result X LineFault → LineFault → Type 0
+IsFaultOf asked read (NotAscii line) = read ≡ Err (NotAscii line)
+IsFaultOf asked read (TooLong line) = read ≡ Err (TooLong line)
+IsFaultOf asked read Memory = asked ≡ true
+
+-- the answer is what is read, or want of memory where it is asked for
+abbrev pub Gives : {X : Type 0} → Bool → Result X LineFault → Result X LineFault → Type 0
+Gives asked read (Ok value) = read ≡ Ok value
+Gives asked read (Err fault) = IsFaultOf asked read fault
+
+-- whether a text asks for memory: where it is read as a line
+abbrev pub asks_memory : ℕ → ℕ → List ℕ → Bool
+asks_memory number start text = is_line (read_line number start text)
+
+-- the answer is what a text is read as, or want of memory where it asks for it
+abbrev pub GivesLine : ℕ → ℕ → List ℕ → Result (Option Line) LineFault → Type 0
+GivesLine number start text answer = Gives (asks_memory number start text) (read_line number start text) answer
+
+-- what is read without a fault stands behind the lines
+abbrev pub IsAdded : Result (Option Line) LineFault → List Line → List Line → Type 0
+IsAdded read old new = (line : Option Line) × (read ≡ Ok line) × (new ≡ old ++ option_to_list line)
 
 -- the bytes of a span, none where there is no span
 abbrev pub option_text : List ℕ → Option Span → List ℕ

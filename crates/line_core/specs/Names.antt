@@ -1,3 +1,4 @@
+-- names numbered in the order in which they came
 use Rattle.std.specs.Prelude.{◌≡◌, ◌≢◌, ℕ, List, [], ◌∷◌, ◌++◌, length, position, Option, None, Some, Result, Ok, Err}
 use Rattle.std.specs.List.{AllPairs}
 use Rattle.std.specs.Str.{bytes_eq}
@@ -12,8 +13,8 @@ number_of name names = position (bytes_eq name) names
 abbrev pub AreDistinct : List (List ℕ) → Type 0
 AreDistinct names = AllPairs (λ one other. one ≢ other) names
 
--- what `add` answers, and what it leaves: a new name goes last, and an error changes nothing
+-- what `add` answers, and what it leaves: a new name goes last, and an error changes nothing; memory is asked for a new name alone
 abbrev pub AddAnswers : List (List ℕ) → List (List ℕ) → List ℕ → Result ℕ NameFault → Type 0
 AddAnswers old new name (Ok number) = (number_of name old ≡ None) × (number ≡ length old) × (new ≡ old ++ name ∷ [])
 AddAnswers old new name (Err (Twice first)) = (number_of name old ≡ Some first) × (new ≡ old)
-AddAnswers old new name (Err Memory) = new ≡ old
+AddAnswers old new name (Err Memory) = (number_of name old ≡ None) × (new ≡ old)

@@ -1,3 +1,4 @@
+-- what a field is: a longest run of bytes that aren't blanks
 use Rattle.std.specs.Prelude.{◌≡◌, ℕ, ◌+◌, ◌-◌, ◌<◌, ◌≤◌, true, false, List, length, slice_index}
 use Rattle.line_core.specs.Fields.{is_blank}
 use Rattle.line_core.specs.declared.field_list.Span.{Span}

@@ -1,7 +1,7 @@
-ghost use Rattle.std.specs.Prelude.{◌≡◌, ℕ, ◌+◌, ◌^◌, ◌++◌, ◌<◌, length, Err, IfOk, OnErr, OnOk};
+ghost use Rattle.std.specs.Prelude.{◌≡◌, ◌+◌, ◌^◌, ◌++◌, ◌<◌, ◌≤◌, true, length, take, drop, position, Err, IfErr, IfOk, IfSome, OnErr, OnOk, is_some};
 ghost use Rattle.std.specs.List.{All, AllPairs};
 ghost use Rattle.std.specs.Option.{option_to_list};
-ghost use Rattle.line_core.specs.Lines.{field_text, lines_of, read_line, Gives, IsAbove, IsLineOf};
+ghost use Rattle.line_core.specs.Lines.{asks_memory, field_text, is_newline, lines_of, may_want_memory, read_line, without_return, Gives, GivesLine, IsAbove, IsAdded, IsFaultOf, IsLineOf};
 ghost use Rattle.line_core.specs.declared.line_list.LineFault.TheVariants.{Memory};
 
 use crate::field_list::{Span, fields};
@@ -42,7 +42,8 @@ pub enum LineFault {
     Memory,
 }
 
-const MOST_BYTES: usize = 1024;
+/// The greatest number of bytes of a line.
+const MAX_LINE_BYTES: usize = 1024;
 
 fn read_line(
     alloc: Global,
@@ -51,12 +52,12 @@ fn read_line(
     text: &[u8],
 ) -> Result<Option<Line>, LineFault>
     requires { start + length text.now < 2 ^ 64 }
-    ensures { Gives result (read_line number start text.now) }
+    ensures { GivesLine number start text.now result }
 {
     if is_comment(text) {
         return Ok(None);
     }
-    if MOST_BYTES < text.len() {
+    if MAX_LINE_BYTES < text.len() {
         return Err(LineFault::TooLong { line: number });
     }
     if !is_plain(text) {
@@ -75,7 +76,7 @@ fn read_line(
 
 fn push_line(lines: &mut List<Line>, line: Option<Line>) -> Result<(), LineFault>
     ensures ok { OnOk result (lines.new ≡ lines.old ++ option_to_list line) }
-    ensures err { OnErr result (result ≡ Err Memory) }
+    ensures err { OnErr result ((result ≡ Err Memory) × (is_some line ≡ true)) }
 {
     match line {
         Some(line) => lines.push(line).map_err(|_| LineFault::Memory),
@@ -83,28 +84,60 @@ fn push_line(lines: &mut List<Line>, line: Option<Line>) -> Result<(), LineFault
     }
 }
 
+// Puts what a text is read as behind the lines.
+fn add_line(
+    alloc: Global,
+    lines: &mut List<Line>,
+    number: u64,
+    start: usize,
+    text: &[u8],
+) -> Result<(), LineFault>
+    requires { start + length text.now < 2 ^ 64 }
+    ensures ok { OnOk result (IsAdded (read_line number start text.now) lines.old lines.new) }
+    ensures err { IfErr result (IsFaultOf (asks_memory number start text.now) (read_line number start text.now)) }
+{
+    let line = read_line(alloc, number, start, text)?;
+    push_line(lines, line)
+}
+
+// How many bytes stand before the next newline from a place on.
+fn newline_after(bytes: &[u8], at: usize) -> Option<usize>
+    requires { at ≤ length bytes.now }
+    ensures place { result ≡ position is_newline (drop at bytes.now) }
+    ensures within { IfSome result (λ count. at + count < length bytes.now) }
+{
+    next_newline(&bytes[at..])
+}
+
+// The text of so many bytes from a place on, which a newline follows.
+fn text_at(bytes: &[u8], at: usize, count: usize) -> &[u8]
+    requires { at + count ≤ length bytes.now }
+    ensures text { result.now ≡ without_return (take count (drop at bytes.now)) }
+    ensures short { length result.now ≤ count }
+{
+    without_return(&bytes[at..at + count])
+}
+
 fn read_lines(alloc: Global, bytes: &[u8]) -> Result<List<Line>, LineFault>
-    ensures { Gives result (lines_of bytes.now) }
+    ensures { Gives (may_want_memory bytes.now) (lines_of bytes.now) result }
 {
     let mut found = List::new(alloc);
     let mut number = 1u64;
     let mut at = 0;
-    while let Some(count) = next_newline(&bytes[at..]) {
-        let text = without_return(&bytes[at..at + count]);
-        let line = read_line(alloc, number, at, text)?;
-        push_line(&mut found, line)?;
+    while let Some(count) = newline_after(bytes, at) {
+        add_line(alloc, &mut found, number, at, text_at(bytes, at, count))?;
         number += 1;
         at += count + 1;
     }
-    let line = read_line(alloc, number, at, &bytes[at..])?;
-    push_line(&mut found, line)?;
+    add_line(alloc, &mut found, number, at, &bytes[at..])?;
     Ok(found)
 }
 
 /// The lines of a file that aren't comments, in order. A fault is that of the
-/// first line that has one, and of its length before its bytes.
+/// first line that has one, and of its length before its bytes. `Memory` comes
+/// only where a line that isn't a comment stands before the first fault.
 pub fn lines(alloc: Global, bytes: &[u8]) -> Result<List<Line>, LineFault>
-    ensures exact { Gives result (lines_of bytes.now) }
+    ensures exact { Gives (may_want_memory bytes.now) (lines_of bytes.now) result }
     ensures within { IfOk result (All (IsLineOf bytes.now)) }
     ensures rise { IfOk result (AllPairs IsAbove) }
 {

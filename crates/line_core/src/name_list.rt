@@ -79,7 +79,8 @@ impl Names {
     }
 
     /// Appends a name, and answers its number. `Twice` comes exactly where the
-    /// name is there. After an error the names are as before.
+    /// name is there, and `Memory` only where it isn't. After an error the names
+    /// are as before.
     pub fn add(&mut self, name: &[u8]) -> Result<u32, NameFault>
         requires { length self.old < 2 ^ 32 }
         ensures { AddAnswers self.old self.new name.now result }

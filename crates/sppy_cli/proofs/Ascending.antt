@@ -1,10 +1,13 @@
+-- The entries of a core file ascend.
 use Rattle.std.proofs.Common.{arith, ◌≡◌, ◌<◌, ◌≤◌, ◌+◌, ◌-◌, ◌⊎◌, inl, inr, ℕ, zero, suc, ℤ, List, [], ◌++◌, Option, Some, None, All, length, refl, ◌∙◌, sym, ap, subst₂, length-append}
 use Rattle.std.proofs.lemmas.Bool.{cases_lt}
 use Rattle.std.proofs.lemmas.List.{get_or_append_left, get_or-append_right}
-use Rattle.std.proofs.lemmas.List.Elements.{All-append, All-nil, All-cons}
+use Rattle.std.proofs.lemmas.List.Elements.{All-nil, All-cons}
+use Rattle.base_words.proofs.Gathering.{gathered_parts}
 use Rattle.boxed_problem.specs.Facts.{ComesBefore, entry_at, no_entry}
 use Rattle.boxed_problem.specs.declared.parts.Entry.{Entry}
-use Rattle.sppy_cli.specs.CoreFile.{gathered, entry_list}
+use Rattle.base_words.specs.Gathered.{gathered}
+use Rattle.sppy_cli.specs.CoreFile.{entry_list}
 
 -- each entry comes before the next one
 abbrev pub Ascends : List Entry → Type 0
@@ -33,14 +36,6 @@ pub joined_ascends : (front back : List Entry) → Ascends front → Ascends bac
 joined_ascends front back f b across k h =
     let long : k + 1 < length front + length back = omega (arith, length-append front back) in
     join_at front back f b across k long (cases_lt (k + 1) (length front)) (cases_lt k (length front))
-
--- what stands in a gathered list stands in one of its parts
-pub gathered_parts : {X : Type 0} (P : ℕ → X → Type 0) (f : ℕ → List X) → ((i : ℕ) → All (P i) (f i)) → (n : ℕ) → All (λ x. (i : ℕ) × (i < n) × P i x) (gathered n f)
-gathered_parts P f each zero = All-nil (λ x. (i : ℕ) × (i < zero) × P i x)
-gathered_parts P f each (suc n) =
-    All-append (λ x. (i : ℕ) × (i < suc n) × P i x) (gathered n f) (f n)
-    (λ k d h. let part = gathered_parts P f each n k d h in (part.0, omega arith, part.2))
-    (λ k d h. (n, omega arith, each n k d h))
 
 -- a gathered list ascends where each part does and each entry of a part comes before those of later parts
 pub gathered_ascends : (P : ℕ → Entry → Type 0) (f : ℕ → List Entry) → ((i : ℕ) → All (P i) (f i)) → ((i : ℕ) → Ascends (f i)) → ((i j : ℕ) (x y : Entry) → i < j → P i x → P j y → ComesBefore x y) → (n : ℕ) → Ascends (gathered n f)

@@ -1,3 +1,4 @@
+-- How many points the boxes of a run's columns have.
 use Rattle.std.proofs.Common.{arith, ◌≡◌, ◌≤◌, ◌*◌, ℕ, ℤ, pos, negsuc, ◌≤ℤ◌, true, List, [], ◌∷◌, Option, Some, None, length, map, get_or, unwrap_or, refl, ◌∙◌, sym, ap, ap₂}
 use Rattle.std.specs.List.{list_all, range_with_len}
 use Rattle.std.proofs.lemmas.Bool.{and_parts}
@@ -6,7 +7,7 @@ use Rattle.std.proofs.lemmas.List.{length-map, get_or-map}
 use Rattle.std.proofs.lemmas.List.FromFn.{fill_by_all}
 use Rattle.boxed_problem.specs.Points.{point_count, side_count}
 use Rattle.boxed_problem.specs.declared.parts.Side.{Side}
-use Rattle.sppy_cli.specs.CoreFile.{box_count, count_to, is_narrow}
+use Rattle.sppy_cli.specs.CoreFile.{box_count, end_count, is_narrow}
 use Rattle.sppy_cli.specs.Program.{column_of}
 use Rattle.sppy_cli.specs.RunFacts.{side_of}
 use Rattle.sppy_cli.specs.declared.core_file.Core.{Core}
@@ -14,7 +15,7 @@ use Rattle.sppy_cli.specs.declared.time_file.Periods.{Periods}
 use Rattle.sppy_cli.proofs.Counts.{narrow_within}
 
 -- the upper end of a box that holds 1 to 1000 whole numbers
-pub narrow_end : (upper : Option ℤ) → (1 ≤ count_to upper) × (count_to upper ≤ 1000) → (pos 0 ≤ℤ unwrap_or upper (pos 0)) × (unwrap_or upper (pos 0) ≤ℤ pos 999)
+pub narrow_end : (upper : Option ℤ) → (1 ≤ end_count upper) × (end_count upper ≤ 1000) → (pos 0 ≤ℤ unwrap_or upper (pos 0)) × (unwrap_or upper (pos 0) ≤ℤ pos 999)
 narrow_end None h = absurd (omega arith)
 narrow_end (Some (pos n)) h = (omega (arith, ints), omega (arith, ints))
 narrow_end (Some (negsuc n)) h = absurd (omega arith)
@@ -23,7 +24,7 @@ narrow_end (Some (negsuc n)) h = absurd (omega arith)
 abbrev pub side_to : Option ℤ → Side
 side_to upper = record { lower = pos 0; upper = unwrap_or upper (pos 0) }
 
-side_points : (upper : Option ℤ) → (1 ≤ count_to upper) × (count_to upper ≤ 1000) → side_count (side_to upper) ≡ count_to upper
+side_points : (upper : Option ℤ) → (1 ≤ end_count upper) × (end_count upper ≤ 1000) → side_count (side_to upper) ≡ end_count upper
 side_points None h = absurd (omega arith)
 side_points (Some (pos n)) h = omega arith
 side_points (Some (negsuc n)) h = absurd (omega arith)

@@ -1,3 +1,4 @@
+-- What the scenarios of a stoch file of the small form keep.
 use Rattle.std.proofs.Common.{arith, ◌≡◌, ◌≤◌, ◌-◌, ◌*◌, ◌^◌, max, ℕ, zero, suc, Bool, true, false, List, [], ◌∷◌, Some, None, All, length, fold, unwrap_or, refl, sym, subst, ◌==◌, ◌&&◌, nat_le, if◌then◌else◌, codes}
 use Rattle.std.specs.List.{list_all}
 use Rattle.std.proofs.lemmas.Bool.{and_parts, leb-true}

@@ -1,19 +1,18 @@
 -- What a command's status says of files of the small form, and of a first wrong file.
-use Rattle.std.proofs.Common.{arith, ◌≡◌, ◌∙◌, ℕ, Bool, true, false, nat_le, if◌then◌else◌, List, Option, Some, None, Err, length, refl, sym, ap, subst}
-use Rattle.std.specs.Prelude.{IfSome}
+use Rattle.std.proofs.Common.{arith, ◌≡◌, inl, inr, ◌∙◌, ℕ, Bool, true, false, nat_le, if◌then◌else◌, List, Option, Some, None, length, refl, sym, ap, subst}
 use Rattle.std.specs.FinMap.{get}
 use Rattle.std.proofs.lemmas.Bool.{leb-true}
+use Rattle.io_edge.specs.Faults.{CountsTo}
 use Rattle.io_edge.specs.Shelves.{FileTable}
-use Rattle.sppy_cli.specs.Answers.{CountsLoads, WritesWait, status_of_failure}
-use Rattle.sppy_cli.specs.Complete.{AreSmall, IsComplete, Refuses}
+use Rattle.sppy_cli.specs.Complete.{AreSmall, Completes, CompletesIn, Refuses, RefusesIn}
 use Rattle.sppy_cli.specs.CoreFile.{core_of}
-use Rattle.sppy_cli.specs.Desk.{Answers, CountsReads, CountsWrites, HasFault, IsRunIn, IsWrong, IsWrongAt, branches_at, core_at, most_bytes, periods_at, said_by}
+use Rattle.sppy_cli.specs.Desk.{Answers, AnswersRequest}
+use Rattle.sppy_cli.specs.Files.{HasFault, IsRunIn, IsWrong, IsWrongAt, branches_at, core_at, max_file_bytes, periods_at, said_by}
+use Rattle.sppy_cli.specs.Statuses.{read_fault_of, write_fault_of}
 use Rattle.sppy_cli.specs.StochFile.{branches_of}
 use Rattle.sppy_cli.specs.TimeFile.{periods_of}
 use Rattle.sppy_cli.specs.Words.{Request}
 use Rattle.sppy_cli.specs.declared.run.Run.{Run}
-use Rattle.sppy_cli.specs.declared.run_files.RunFailure.{RunFailure}
-use Rattle.sppy_cli.specs.declared.run_files.RunFailure.TheVariants as failure
 use Rattle.sppy_cli.specs.declared.status.InputFault.{InputFault}
 use Rattle.sppy_cli.specs.declared.status.InputFile.{InputFile}
 use Rattle.sppy_cli.specs.declared.status.InputFile.TheVariants as file
@@ -33,12 +32,12 @@ files_of_run table request run is = record { core = is.core; periods = is.period
 -- a wrong file says nothing
 wrong_says_nothing : {X : Type 0} (read : List ℕ → Option X) (file : Option (List ℕ)) (kind : InputKind) (x : X) → IsWrong read file kind → said_by read file ≡ Some x → ⊥
 wrong_says_nothing read None kind x wrong said = wrong
-wrong_says_nothing read (Some bytes) kind.TooLong x wrong said = by_test (nat_le (length bytes) most_bytes) refl said
+wrong_says_nothing read (Some bytes) kind.TooLong x wrong said = by_test (nat_le (length bytes) max_file_bytes) refl said
   where
-    by_test : (t : Bool) → nat_le (length bytes) most_bytes ≡ t → (if t then read bytes else None) ≡ Some x → ⊥
-    by_test true e said = let short = leb-true (length bytes) most_bytes e in omega (arith, short, wrong)
+    by_test : (t : Bool) → nat_le (length bytes) max_file_bytes ≡ t → (if t then read bytes else None) ≡ Some x → ⊥
+    by_test true e said = let short = leb-true (length bytes) max_file_bytes e in omega (arith, short, wrong)
     by_test false e said = cc
-wrong_says_nothing read (Some bytes) kind.Unbuilt x (fits, none) said = by_test (nat_le (length bytes) most_bytes) said
+wrong_says_nothing read (Some bytes) kind.Unbuilt x (fits, none) said = by_test (nat_le (length bytes) max_file_bytes) said
   where
     by_test : (t : Bool) → (if t then read bytes else None) ≡ Some x → ⊥
     by_test true said = cc
@@ -103,63 +102,48 @@ one_fault table request f g (l, wrong) (m, also) =
 
 -- files of the small form
 complete_by : (table : FileTable) (request : Request) (old new : Option (List ℕ)) (r u w v : ℕ) (s : Status) →
-    Answers table request old new s → CountsReads r u s → CountsWrites w v s → IsComplete table request r u w v s
-complete_by table request old new r u w v status.Done (run, text, is, wait, e) reads writes small calm_in calm_out =
+    AnswersRequest (Some table) request old new s → CountsTo r u (read_fault_of s) → CountsTo w v (write_fault_of s) → CompletesIn table request r u w v s
+complete_by table request old new r u w v status.Done (inl (run, is, (text, wait, e))) reads writes small calm_in calm_out =
     (run, is, summed_have_points run (length run.program.scenarios) wait.bound wait.bound_is)
-complete_by table request old new r u w v (status.Infeasible scenario) (run, is, first, e) reads writes small calm_in calm_out = (run, is, first)
-complete_by table request old new r u w v status.Memory a reads writes small calm_in calm_out = tt
-complete_by table request old new r u w v status.Words a reads writes small calm_in calm_out = a
-complete_by table request old new r u w v (status.Input fault) (fault_is, e) reads writes small calm_in calm_out = no_fault table request fault small fault_is
-complete_by table request old new r u w v (status.ReadFault faults) a (rises, e) writes small calm_in calm_out = calm_in rises
-complete_by table request old new r u w v (status.WriteFault faults) a reads (rises, e) small calm_in calm_out = calm_out rises
+complete_by table request old new r u w v (status.Infeasible scenario) (inl (run, is, (first, e))) reads writes small calm_in calm_out = (run, is, first)
+complete_by table request old new r u w v (status.WriteFault faults) (inl a) reads (rises, e) small calm_in calm_out = calm_out rises
+complete_by table request old new r u w v status.Memory (inl a) reads writes small calm_in calm_out = tt
+complete_by table request old new r u w v status.Words (inl (run, is, never)) reads writes small calm_in calm_out = never
+complete_by table request old new r u w v (status.Input fault) (inl (run, is, never)) reads writes small calm_in calm_out = never
+complete_by table request old new r u w v (status.ReadFault faults) (inl (run, is, never)) reads writes small calm_in calm_out = never
+complete_by table request old new r u w v (status.Input fault) (inr (fault_is, e)) reads writes small calm_in calm_out = no_fault table request fault small fault_is
+complete_by table request old new r u w v (status.ReadFault faults) (inr a) (rises, e) writes small calm_in calm_out = calm_in rises
+complete_by table request old new r u w v status.Memory (inr a) reads writes small calm_in calm_out = tt
+complete_by table request old new r u w v status.Done (inr (never, e)) reads writes small calm_in calm_out = absurd never
+complete_by table request old new r u w v status.Words (inr (never, e)) reads writes small calm_in calm_out = never
+complete_by table request old new r u w v (status.Infeasible scenario) (inr (never, e)) reads writes small calm_in calm_out = absurd never
+complete_by table request old new r u w v (status.WriteFault faults) (inr (never, e)) reads writes small calm_in calm_out = never
 
 -- a first wrong file
-refuses_by : (table : FileTable) (request : Request) (old new : Option (List ℕ)) (s : Status) → Answers table request old new s → Refuses table request s
-refuses_by table request old new status.Done (run, text, is, wait, e) fault wrong = no_fault table request fault (files_of_run table request run is) wrong
-refuses_by table request old new (status.Infeasible scenario) (run, is, first, e) fault wrong = no_fault table request fault (files_of_run table request run is) wrong
-refuses_by table request old new (status.WriteFault faults) (run, is, a) fault wrong = no_fault table request fault (files_of_run table request run is) wrong
-refuses_by table request old new (status.Input found) (found_is, e) fault wrong = one_fault table request found fault found_is wrong
-refuses_by table request old new status.Memory a fault wrong = tt
-refuses_by table request old new (status.ReadFault faults) a fault wrong = tt
-refuses_by table request old new status.Words a fault wrong = a
+refuses_by : (table : FileTable) (request : Request) (old new : Option (List ℕ)) (s : Status) → AnswersRequest (Some table) request old new s → RefusesIn table request s
+refuses_by table request old new status.Done (inl (run, is, a)) fault wrong = no_fault table request fault (files_of_run table request run is) wrong
+refuses_by table request old new (status.Infeasible scenario) (inl (run, is, a)) fault wrong = no_fault table request fault (files_of_run table request run is) wrong
+refuses_by table request old new (status.WriteFault faults) (inl (run, is, a)) fault wrong = no_fault table request fault (files_of_run table request run is) wrong
+refuses_by table request old new status.Memory (inl a) fault wrong = tt
+refuses_by table request old new (status.ReadFault faults) (inl a) fault wrong = tt
+refuses_by table request old new (status.Input found) (inl (run, is, never)) fault wrong = absurd never
+refuses_by table request old new status.Words (inl (run, is, never)) fault wrong = never
+refuses_by table request old new (status.Input found) (inr (found_is, e)) fault wrong = one_fault table request found fault found_is wrong
+refuses_by table request old new status.Memory (inr a) fault wrong = tt
+refuses_by table request old new (status.ReadFault faults) (inr a) fault wrong = tt
+refuses_by table request old new status.Done (inr (never, e)) fault wrong = never
+refuses_by table request old new status.Words (inr (never, e)) fault wrong = never
+refuses_by table request old new (status.Infeasible scenario) (inr (never, e)) fault wrong = never
+refuses_by table request old new (status.WriteFault faults) (inr (never, e)) fault wrong = never
 
 -- the same where the files are told and the words are well formed
 pub completes : (files : Option FileTable) (asked : Option Request) (old new : Option (List ℕ)) (r u w v : ℕ) (s : Status) →
-    IfSome files (λ table. IfSome asked (λ request. Answers table request old new s)) → CountsReads r u s → CountsWrites w v s →
-    IfSome files (λ table. IfSome asked (λ request. IsComplete table request r u w v s))
+    Answers files asked old new s → CountsTo r u (read_fault_of s) → CountsTo w v (write_fault_of s) → Completes files asked r u w v s
 completes None asked old new r u w v s a reads writes = tt
 completes (Some table) None old new r u w v s a reads writes = tt
 completes (Some table) (Some request) old new r u w v s a reads writes = complete_by table request old new r u w v s a reads writes
 
-pub refuses : (files : Option FileTable) (asked : Option Request) (old new : Option (List ℕ)) (s : Status) →
-    IfSome files (λ table. IfSome asked (λ request. Answers table request old new s)) → IfSome files (λ table. IfSome asked (λ request. Refuses table request s))
+pub refuses : (files : Option FileTable) (asked : Option Request) (old new : Option (List ℕ)) (s : Status) → Answers files asked old new s → Refuses files asked s
 refuses None asked old new s a = tt
 refuses (Some table) None old new s a = tt
 refuses (Some table) (Some request) old new s a = refuses_by table request old new s a
-
--- the counts of a run that was loaded, whatever was written of it
-pub reads_kept : (run : Run) (old new : Option (List ℕ)) (before after : ℕ) (s : Status) → WritesWait run old new s → after ≡ before → CountsReads before after s
-reads_kept run old new before after status.Done wrote e = e
-reads_kept run old new before after (status.Infeasible scenario) wrote e = e
-reads_kept run old new before after (status.WriteFault faults) wrote e = e
-reads_kept run old new before after status.Memory wrote e = e
-reads_kept run old new before after status.Words wrote e = e
-reads_kept run old new before after (status.Input fault) wrote e = e
-reads_kept run old new before after (status.ReadFault faults) wrote e = absurd wrote
-
--- the counts where there is no run
-reads_by : (f : RunFailure) (before after : ℕ) → CountsLoads before after (Err f) → CountsReads before after (status_of_failure f)
-reads_by (failure.Input fault) before after e = e
-reads_by (failure.Failed faults) before after rose = rose
-reads_by failure.Memory before after e = e
-
-pub reads_failed : (f : RunFailure) (before after : ℕ) (s : Status) → CountsLoads before after (Err f) → s ≡ status_of_failure f → CountsReads before after s
-reads_failed f before after s counts is = subst (CountsReads before after) (sym is) (reads_by f before after counts)
-
-writes_by : (f : RunFailure) (count : ℕ) → CountsWrites count count (status_of_failure f)
-writes_by (failure.Input fault) count = refl
-writes_by (failure.Failed faults) count = refl
-writes_by failure.Memory count = refl
-
-pub writes_kept : (f : RunFailure) (count : ℕ) (s : Status) → s ≡ status_of_failure f → CountsWrites count count s
-writes_kept f count s is = subst (CountsWrites count count) (sym is) (writes_by f count)

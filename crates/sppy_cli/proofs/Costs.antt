@@ -1,3 +1,4 @@
+-- The scaled costs of a scenario's problem.
 use Rattle.std.proofs.Common.{arith, ap, ◌≡◌, ℕ, ◌<◌, ◌≤◌, ℤ, pos, negsuc, ◌*ℤ◌, ◌≤ℤ◌, FitsSigned, unsigned_abs}
 use Rattle.std.proofs.lemmas.Int.{ints, fits_signed_from_abs, fits_signed_mul, unsigned_abs-mul}
 use Rattle.std.proofs.Math.Nat.{mul-le-mul}

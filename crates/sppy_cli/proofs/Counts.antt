@@ -1,19 +1,17 @@
-use Rattle.std.proofs.Common.{arith, ◌≡◌, ◌≤◌, ◌<◌, ◌+◌, ◌*◌, ℕ, ℤ, zero, suc, Bool, true, false, List, [], ◌∷◌, Option, None, drop, length, nat_le, ◌-◌, get_or, refl, ◌∙◌, sym, ap, ◌&&◌, mul_comm}
+-- The number of a box's points, column by column.
+use Rattle.std.proofs.Common.{arith, ◌≡◌, ◌≤◌, ◌<◌, ◌+◌, ◌*◌, ℕ, ℤ, zero, suc, Bool, true, false, List, [], ◌∷◌, Option, None, drop, length, nat_le, ◌-◌, get_or, refl, ◌∙◌, sym, ap, mul_comm}
 use Rattle.std.specs.List.{list_all}
 use Rattle.std.proofs.lemmas.Bool.Decides.{nat_tests}
 use Rattle.std.proofs.lemmas.List.{drop_more}
 use Rattle.std.proofs.lemmas.List.Folds.{list_all_at}
-use Rattle.sppy_cli.specs.CoreFile.{box_count, count_to, is_narrow}
+use Rattle.base_words.proofs.Comparisons.{both_left, both_right}
+use Rattle.sppy_cli.specs.CoreFile.{box_count, end_count, is_narrow}
 
-both_true : (p q : Bool) → (p && q) ≡ true → (p ≡ true) × (q ≡ true)
-both_true true q e = (refl, e)
-both_true false q e = cc
-
-pub narrow_within : (upper : Option ℤ) → is_narrow upper ≡ true → (1 ≤ count_to upper) × (count_to upper ≤ 1000)
+pub narrow_within : (upper : Option ℤ) → is_narrow upper ≡ true → (1 ≤ end_count upper) × (end_count upper ≤ 1000)
 narrow_within upper e = (grind (arith, nat_tests), grind (arith, nat_tests))
 
 -- each of narrow upper ends leaves 1 to 1000 whole numbers
-pub narrow_at : (uppers : List (Option ℤ)) (i : ℕ) (d : Option ℤ) → list_all is_narrow uppers ≡ true → i < length uppers → (1 ≤ count_to (get_or uppers i d)) × (count_to (get_or uppers i d) ≤ 1000)
+pub narrow_at : (uppers : List (Option ℤ)) (i : ℕ) (d : Option ℤ) → list_all is_narrow uppers ≡ true → i < length uppers → (1 ≤ end_count (get_or uppers i d)) × (end_count (get_or uppers i d) ≤ 1000)
 narrow_at uppers i d all h = narrow_within (get_or uppers i d) (by_test (is_narrow (get_or uppers i d)) refl)
   where
     by_test : (t : Bool) → is_narrow (get_or uppers i d) ≡ t → is_narrow (get_or uppers i d) ≡ true
@@ -21,7 +19,7 @@ narrow_at uppers i d all h = narrow_within (get_or uppers i d) (by_test (is_narr
     by_test false e = let f = list_all_at is_narrow uppers i d h e in cc
 
 -- the points of the columns from one on
-pub count_more : (uppers : List (Option ℤ)) (i : ℕ) (d : Option ℤ) → i < length uppers → box_count (drop i uppers) ≡ count_to (get_or uppers i d) * box_count (drop (i + 1) uppers)
+pub count_more : (uppers : List (Option ℤ)) (i : ℕ) (d : Option ℤ) → i < length uppers → box_count (drop i uppers) ≡ end_count (get_or uppers i d) * box_count (drop (i + 1) uppers)
 count_more uppers i d h = ap box_count (drop_more uppers i d h)
 
 times_grows : (a b : ℕ) → 1 ≤ a → b ≤ a * b
@@ -34,18 +32,19 @@ count_grows [] zero all = omega arith
 count_grows [] (suc n) all = omega arith
 count_grows (u ∷ us) zero all = omega arith
 count_grows (u ∷ us) (suc n) all =
-    let both = both_true (is_narrow u) (list_all is_narrow us) all in
-    let rest : box_count (drop n us) ≤ box_count us = count_grows us n both.1 in
-    let more = times_grows (count_to u) (box_count us) (narrow_within u both.0).0 in
+    let narrow = both_left (is_narrow u) (list_all is_narrow us) all in
+    let others = both_right (is_narrow u) (list_all is_narrow us) all in
+    let rest : box_count (drop n us) ≤ box_count us = count_grows us n others in
+    let more = times_grows (end_count u) (box_count us) (narrow_within u narrow).0 in
     omega (arith, rest, more)
 
 -- the points of one column more
-pub count_step : (uppers : List (Option ℤ)) (n count more : ℕ) → 0 < n → n ≤ length uppers → count ≡ box_count (drop n uppers) → more ≡ count_to (get_or uppers (n - 1) None) → count * more ≡ box_count (drop (n - 1) uppers)
+pub count_step : (uppers : List (Option ℤ)) (n count more : ℕ) → 0 < n → n ≤ length uppers → count ≡ box_count (drop n uppers) → more ≡ end_count (get_or uppers (n - 1) None) → count * more ≡ box_count (drop (n - 1) uppers)
 count_step uppers n count more h k e f =
     let at : n - 1 + 1 ≡ n = omega arith in
     let step = count_more uppers (n - 1) None (omega arith) in
     let rest : box_count (drop (n - 1 + 1) uppers) ≡ count = ap (λ m. box_count (drop m uppers)) at ∙ sym e in
-    let both : count_to (get_or uppers (n - 1) None) * box_count (drop (n - 1 + 1) uppers) ≡ more * count = ap (λ m. m * box_count (drop (n - 1 + 1) uppers)) (sym f) ∙ ap (λ m. more * m) rest in
+    let both : end_count (get_or uppers (n - 1) None) * box_count (drop (n - 1 + 1) uppers) ≡ more * count = ap (λ m. m * box_count (drop (n - 1 + 1) uppers)) (sym f) ∙ ap (λ m. more * m) rest in
     mul_comm count more ∙ sym (step ∙ both)
 
 pub over_limit : (a b : ℕ) → b < a → false ≡ nat_le a b

@@ -1,111 +1,107 @@
-use Rattle.std.proofs.Common.{◌≡◌, ◌∙◌, ℤ, List, ℕ, [], ◌∷◌, ◌++◌, length, take, Option, Some, None, Ok, Err, refl, sym, ap, subst}
-use Rattle.std.specs.Prelude.{IfSome}
+-- What the top call answers, from what the loads gave and what was put.
+use Rattle.std.proofs.Common.{◌≡◌, inl, inr, ℤ, List, ℕ, ◌++◌, Option, Some, None, Result, Ok, Err, refl, sym, subst}
 use Rattle.std.specs.List.{concat}
-use Rattle.std.specs.Option.{option_map_or}
-use Rattle.io_edge.proofs.Writing.{appended-nothing, appended_twice}
+use Rattle.io_edge.proofs.Writing.{appended_twice, front_after, front_whole}
+use Rattle.io_edge.specs.Faults.{CountsTo}
 use Rattle.io_edge.specs.Shelves.{FileTable}
 use Rattle.io_edge.specs.Sinks.{appended}
-use Rattle.sppy_cli.specs.Answers.{LoadsRun, PutsBound, WritesWait, status_of_failure, status_of_put}
-use Rattle.sppy_cli.specs.Desk.{Answers, Appends, GainsFront, IsRunIn, IsWaitText, LoadsNames, Writes, heading_text, names_of, with_names}
+use Rattle.sppy_cli.specs.Desk.{Answers, HasNoRun}
+use Rattle.sppy_cli.specs.Files.{IsRunFor}
+use Rattle.sppy_cli.specs.InTurn.{LoadsInTurn, LoadsNames, LoadsTo}
+use Rattle.sppy_cli.specs.RunText.{CutsBound, IsWaitText, PutsBound, PutsText, WritesBoundFront, WritesFront, WritesWait, heading_text, unit_of}
 use Rattle.sppy_cli.specs.Scenarios.{wait_and_see_of}
+use Rattle.sppy_cli.specs.Statuses.{write_fault_of}
+use Rattle.sppy_cli.specs.Texts.{IsBoundText}
 use Rattle.sppy_cli.specs.Words.{Request}
-use Rattle.sppy_cli.specs.declared.puts.PutFailure.{PutFailure}
-use Rattle.sppy_cli.specs.declared.puts.PutFailure.TheVariants as put
 use Rattle.sppy_cli.specs.declared.run.Run.{Run}
-use Rattle.sppy_cli.specs.declared.run_files.RunFailure.{RunFailure}
-use Rattle.sppy_cli.specs.declared.run_files.RunFailure.TheVariants as failure
+use Rattle.sppy_cli.specs.declared.status.InputFile.TheVariants as file
 use Rattle.sppy_cli.specs.declared.status.Status.{Status}
 use Rattle.sppy_cli.specs.declared.status.Status.TheVariants as status
 
+abbrev Written : Type 0
+Written = Option (List ℕ)
+
 -- the heading and the lines of the bound are the whole text
-pub wait_written : (run : Run) (bound : ℤ) (old mid new : Option (List ℕ)) → mid ≡ appended old (heading_text run) → wait_and_see_of run ≡ Some bound → PutsBound run bound mid new →
+text_with : (run : Run) (bound : ℤ) (lines : List (List ℕ)) → wait_and_see_of run ≡ Some bound → IsBoundText bound (unit_of run) lines → IsWaitText run (heading_text run ++ concat lines)
+text_with run bound lines b h = record { bound = bound; lines = lines; bound_is = b; lines_are = h; text_is = refl }
+
+pub wait_written : (run : Run) (bound : ℤ) (old mid new : Written) → mid ≡ appended old (heading_text run) → wait_and_see_of run ≡ Some bound → (lines : List (List ℕ)) × IsBoundText bound (unit_of run) lines × (new ≡ appended mid (concat lines)) →
     (text : List ℕ) × IsWaitText run text × (new ≡ appended old text)
 wait_written run bound old mid new e b (lines, h, f) = (
   heading_text run ++ concat lines,
-  record { bound = bound; lines = lines; bound_is = b; lines_are = h; text_is = refl },
+  text_with run bound lines b h,
   appended_twice old mid new (heading_text run) (concat lines) e f,
 )
 
-appends_after : (old mid new : Option (List ℕ)) (front : List ℕ) → mid ≡ appended old front → Appends mid new → Appends old new
-appends_after old mid new front e (text, f) = (front ++ text, appended_twice old mid new front text e f)
+-- the heading alone
+pub heading_alone : (run : Run) (old mid : Written) → mid ≡ appended old (heading_text run) → WritesFront run old mid
+heading_alone run old mid e = inl (front_whole old mid (heading_text run) e)
 
-cut_by : (run : Run) (f : PutFailure) (old new : Option (List ℕ)) → Appends old new → WritesWait run old new (status_of_put f)
-cut_by run (put.Failed faults) old new a = a
-cut_by run put.Memory old new a = a
+bound_front : (run : Run) (bound : ℤ) (old mid new : Written) → mid ≡ appended old (heading_text run) → wait_and_see_of run ≡ Some bound → WritesBoundFront run bound mid new → WritesFront run old new
+bound_front run bound old mid new e b (lines, h, front) =
+    inr (heading_text run ++ concat lines, text_with run bound lines b h, front_after old mid new (heading_text run) (concat lines) e front)
 
--- the text is cut where a put fails behind the heading
-pub wait_cut : (run : Run) (f : PutFailure) (s : Status) (old mid new : Option (List ℕ)) (front : List ℕ) → mid ≡ appended old front → Appends mid new → s ≡ status_of_put f → WritesWait run old new s
-wait_cut run f s old mid new front e a is = subst (λ t. WritesWait run old new t) (sym is) (cut_by run f old new (appends_after old mid new front e a))
+-- a put of the bound that ends early
+pub bound_cut : (run : Run) (bound : ℤ) (old mid new : Written) (s : Status) → mid ≡ appended old (heading_text run) → wait_and_see_of run ≡ Some bound → CutsBound run bound mid new s → WritesWait run old new s
+bound_cut run bound old mid new (status.WriteFault faults) e b front = bound_front run bound old mid new e b front
+bound_cut run bound old mid new status.Memory e b (inl same) = subst (WritesFront run old) (sym same) (heading_alone run old mid e)
+bound_cut run bound old mid new status.Memory e b (inr front) = bound_front run bound old mid new e b front
+bound_cut run bound old mid new status.Done e b never = absurd never
+bound_cut run bound old mid new status.Words e b never = absurd never
+bound_cut run bound old mid new (status.Input fault) e b never = absurd never
+bound_cut run bound old mid new (status.Infeasible scenario) e b never = absurd never
+bound_cut run bound old mid new (status.ReadFault faults) e b never = absurd never
 
-with_run : (table : FileTable) (request : Request) (run : Run) (old new : Option (List ℕ)) (s : Status) → IsRunIn table request run → WritesWait run old new s → Answers table request old new s
-with_run table request run old new status.Done is (text, wait, e) = (run, text, is, wait, e)
-with_run table request run old new (status.Infeasible scenario) is (first, e) = (run, is, first, e)
-with_run table request run old new (status.WriteFault faults) is a = (run, is, a)
-with_run table request run old new status.Memory is a = a
-with_run table request run old new status.Words is a = absurd a
-with_run table request run old new (status.Input fault) is a = absurd a
-with_run table request run old new (status.ReadFault faults) is a = absurd a
+-- the lines of a bound, and how their put ended
+pub bound_put : {U : Type 0} (run : Run) (bound : ℤ) (lines : List (List ℕ)) (old new : Written) (result : Result U Status) → IsBoundText bound (unit_of run) lines → PutsText (concat lines) old new result → PutsBound run bound old new result
+bound_put run bound lines old new (Ok u) h put = (lines, h, put)
+bound_put run bound lines old new (Err (status.WriteFault faults)) h put = (lines, h, put)
+bound_put run bound lines old new (Err status.Memory) h put = inr (lines, h, put)
+bound_put run bound lines old new (Err status.Done) h never = never
+bound_put run bound lines old new (Err status.Words) h never = never
+bound_put run bound lines old new (Err (status.Input fault)) h never = never
+bound_put run bound lines old new (Err (status.Infeasible scenario)) h never = never
+bound_put run bound lines old new (Err (status.ReadFault faults)) h never = never
 
--- the answers of a run that was loaded
-pub answers_from_run : (files : Option FileTable) (asked : Option Request) (request : Request) (run : Run) (old new : Option (List ℕ)) (s : Status) → asked ≡ Some request → LoadsRun files request (Ok run) → WritesWait run old new s →
-    IfSome files (λ table. IfSome asked (λ request. Answers table request old new s))
-answers_from_run None asked request run old new s e is w = tt
-answers_from_run (Some table) asked request run old new s e is w =
-    subst (λ (o : Option Request). IfSome o (λ request. Answers table request old new s)) (sym e) (with_run table request run old new s is w)
+-- the answers of a run that was loaded, and where there is none
+pub answers_from_run : (files : Option FileTable) (asked : Option Request) (request : Request) (run : Run) (old new : Written) (s : Status) → asked ≡ Some request → IsRunFor files request run → WritesWait run old new s → Answers files asked old new s
+answers_from_run files asked request run old new s e is wrote =
+    subst (λ asked. Answers files asked old new s) (sym e) (inl (run, is, wrote))
 
-appends_nothing : (old : Option (List ℕ)) → Appends old old
-appends_nothing old = ([], sym (appended-nothing old))
+pub answers_from_none : (files : Option FileTable) (asked : Option Request) (request : Request) (old : Written) (s : Status) → asked ≡ Some request → HasNoRun files request s → Answers files asked old old s
+answers_from_none files asked request old s e never =
+    subst (λ asked. Answers files asked old old s) (sym e) (inr (never, refl))
 
-without_run : (table : FileTable) (request : Request) (f : RunFailure) (old : Option (List ℕ)) → LoadsRun (Some table) request (Err f) → Answers table request old old (status_of_failure f)
-without_run table request (failure.Input fault) old h = (h, refl)
-without_run table request (failure.Failed faults) old h = refl
-without_run table request failure.Memory old h = appends_nothing old
+abbrev Names : Type 0
+Names = Option (List (List ℕ))
 
--- the answers where there is no run
-pub answers_from_failure : (files : Option FileTable) (asked : Option Request) (request : Request) (f : RunFailure) (old : Option (List ℕ)) (s : Status) → asked ≡ Some request → LoadsRun files request (Err f) → s ≡ status_of_failure f →
-    IfSome files (λ table. IfSome asked (λ request. Answers table request old old s))
-answers_from_failure None asked request f old s e h is = tt
-answers_from_failure (Some table) asked request f old s e h is =
-    subst (λ (o : Option Request). IfSome o (λ request. Answers table request old old s)) (sym e) (subst (λ t. Answers table request old old t) (sym is) (without_run table request f old h))
+in_turn : (files : Option FileTable) (request : Request) (run : Run) (old new : Written) (before after : Names) (s : Status) → LoadsTo files request file.Stoch before after → WritesWait run old new s → LoadsInTurn files request before after s
+in_turn files request run old new before after status.Done loaded wrote = loaded
+in_turn files request run old new before after (status.Infeasible scenario) loaded wrote = loaded
+in_turn files request run old new before after (status.WriteFault faults) loaded wrote = loaded
+in_turn files request run old new before after status.Memory loaded wrote = inr (file.Stoch, loaded)
+in_turn files request run old new before after status.Words loaded never = absurd never
+in_turn files request run old new before after (status.Input fault) loaded never = absurd never
+in_turn files request run old new before after (status.ReadFault faults) loaded never = absurd never
 
-nothing_by : (f : RunFailure) (old : Option (List ℕ)) → Writes old old (status_of_failure f)
-nothing_by (failure.Input fault) old = refl
-nothing_by (failure.Failed faults) old = refl
-nothing_by failure.Memory old = appends_nothing old
+-- the loads of a run that was loaded, and where there is none
+pub names_from_run : (files : Option FileTable) (asked : Option Request) (request : Request) (run : Run) (old new : Written) (before after : Names) (s : Status) → asked ≡ Some request → LoadsTo files request file.Stoch before after → WritesWait run old new s → LoadsNames files asked before after s
+names_from_run files asked request run old new before after s e loaded wrote =
+    subst (λ asked. LoadsNames files asked before after s) (sym e) (in_turn files request run old new before after s loaded wrote)
 
--- nothing is written where there is no run
-pub writes_nothing : (f : RunFailure) (old : Option (List ℕ)) (s : Status) → s ≡ status_of_failure f → Writes old old s
-writes_nothing f old s is = subst (λ t. Writes old old t) (sym is) (nothing_by f old)
+pub names_from_none : (files : Option FileTable) (asked : Option Request) (request : Request) (before after : Names) (s : Status) → asked ≡ Some request → LoadsInTurn files request before after s → LoadsNames files asked before after s
+names_from_none files asked request before after s e turn =
+    subst (λ asked. LoadsNames files asked before after s) (sym e) turn
 
-names_by_run : (run : Run) (names : List (List ℕ)) (old new : Option (List ℕ)) (before after : Option (List (List ℕ))) (s : Status) → length names ≡ 3 → WritesWait run old new s → after ≡ with_names before names → LoadsNames before after names s
-names_by_run run names old new before after status.Done long wrote e = e
-names_by_run run names old new before after (status.Infeasible scenario) long wrote e = e
-names_by_run run names old new before after (status.WriteFault faults) long wrote e = e
-names_by_run run names old new before after status.Memory long wrote e = (3, e ∙ ap (with_names before) (sym (whole names long)))
-  where
-    whole : (names : List (List ℕ)) → length names ≡ 3 → take 3 names ≡ names
-    whole (a ∷ b ∷ d ∷ []) e = refl
-    whole (a ∷ b ∷ d ∷ f ∷ names) e = absurd cc
-    whole (a ∷ b ∷ []) e = absurd cc
-    whole (a ∷ []) e = absurd cc
-    whole [] e = absurd cc
-names_by_run run names old new before after status.Words long wrote e = absurd wrote
-names_by_run run names old new before after (status.Input fault) long wrote e = absurd wrote
-names_by_run run names old new before after (status.ReadFault faults) long wrote e = absurd wrote
+-- the counts: never fault is reported of the shelf where there is a run, nor of the sink where there is none
+pub reads_kept : (before after : ℕ) (reported : Option ℕ) → CountsTo before after None → reported ≡ None → CountsTo before after reported
+reads_kept before after reported same none = subst (CountsTo before after) (sym none) same
 
--- all names of the command were loaded
-pub names_from_run : (asked : Option Request) (request : Request) (run : Run) (old new : Option (List ℕ)) (before after : Option (List (List ℕ))) (s : Status) → asked ≡ Some request → WritesWait run old new s → after ≡ with_names before (names_of request) →
-    LoadsNames before after (option_map_or names_of asked []) s
-names_from_run asked request run old new before after s e wrote f =
-    subst (λ (o : Option Request). LoadsNames before after (option_map_or names_of o []) s) (sym e) (names_by_run run (names_of request) old new before after s refl wrote f)
-
-names_by_failure : (f : RunFailure) (names : List (List ℕ)) (before after : Option (List (List ℕ))) → GainsFront before after names → LoadsNames before after names (status_of_failure f)
-names_by_failure (failure.Input fault) names before after gains = gains
-names_by_failure (failure.Failed faults) names before after gains = gains
-names_by_failure failure.Memory names before after gains = gains
-
--- a front of the names was loaded
-pub names_from_failure : (asked : Option Request) (request : Request) (f : RunFailure) (before after : Option (List (List ℕ))) (s : Status) → asked ≡ Some request → GainsFront before after (names_of request) → s ≡ status_of_failure f →
-    LoadsNames before after (option_map_or names_of asked []) s
-names_from_failure asked request f before after s e gains is =
-    subst (λ (o : Option Request). LoadsNames before after (option_map_or names_of o []) s) (sym e) (subst (LoadsNames before after (names_of request)) (sym is) (names_by_failure f (names_of request) before after gains))
+pub writes_kept : (files : Option FileTable) (request : Request) (count : ℕ) (s : Status) → HasNoRun files request s → CountsTo count count (write_fault_of s)
+writes_kept files request count (status.Input fault) never = (refl, tt)
+writes_kept files request count (status.ReadFault faults) never = (refl, tt)
+writes_kept files request count status.Memory never = (refl, tt)
+writes_kept files request count status.Done never = (refl, tt)
+writes_kept files request count status.Words never = (refl, tt)
+writes_kept files request count (status.Infeasible scenario) never = (refl, tt)
+writes_kept files request count (status.WriteFault faults) never = absurd never

@@ -1,3 +1,4 @@
+-- The number that digits write, one digit more at a time.
 use Rattle.std.proofs.Common.{arith, ◌≡◌, ◌≤◌, ◌<◌, ◌+◌, ◌*◌, ◌^◌, ℕ, Bool, true, false, List, take, get_or, length, refl, ◌∙◌, sym, ap, lit≤}
 use Rattle.std.specs.List.{list_all}
 use Rattle.std.specs.Char.{digit_value}

@@ -1,3 +1,4 @@
+-- Lines that are in their places, one line more at a time.
 use Rattle.std.proofs.lemmas.Bool.{cases_lt}
 use Rattle.std.proofs.Common.{arith, ◌⊎◌, inl, inr, ◌≡◌, ◌<◌, ◌≤◌, ◌+◌, ℕ, zero, suc, Bool, true, false, ◌&&◌, List, take, get_or, refl, ◌∙◌, sym, ap, add-one}
 use Rattle.line_core.specs.declared.line_list.Line.{Line}

@@ -1,3 +1,4 @@
+-- The latest line that begins a scenario.
 use Rattle.std.proofs.Common.{arith, ◌≡◌, ◌≤◌, ◌<◌, ◌+◌, ◌-◌, ℕ, Bool, true, false, List, [], ◌∷◌, take, length, reverse, get_or, ◌∙◌, sym, ap, ◌||◌}
 use Rattle.std.proofs.lemmas.Grind.{common_steps}
 use Rattle.std.proofs.lemmas.List.{take_more, reverse-append}

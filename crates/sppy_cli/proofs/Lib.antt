@@ -1,12 +1,10 @@
 pub mod Digits
 pub mod Fit
 pub mod Forms
-pub mod Gather
 pub mod Counts
 pub mod Latest
 pub mod Written
 pub mod Totals
-pub mod Gains
 pub mod CoreFacts
 pub mod Ascending
 pub mod BoxPoints
@@ -18,5 +16,6 @@ pub mod SmallValues
 pub mod Sums
 pub mod HavingPoints
 pub mod Loading
+pub mod Turns
 pub mod DeskLaws
 pub mod Completing

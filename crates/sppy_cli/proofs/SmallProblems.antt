@@ -9,7 +9,7 @@ use Rattle.std.proofs.Math.Nat.{mul-le-mul, mul-zero}
 use Rattle.std.specs.List.{All}
 use Rattle.boxed_problem.specs.Facts.{IsBoxed, column_size, value_size, entry_size, limit_size, limits_size, no_limits, row_size}
 use Rattle.boxed_problem.specs.Sides.{no_side, reach, side_at}
-use Rattle.boxed_problem.specs.Sums.{size_below}
+use Rattle.base_words.specs.Sums.{size_below}
 use Rattle.boxed_problem.specs.declared.parts.Entry.{Entry}
 use Rattle.boxed_problem.specs.declared.parts.Limits.{Limits}
 use Rattle.boxed_problem.specs.declared.parts.Side.{Side}

@@ -1,3 +1,4 @@
+-- The run of three small files keeps what a run keeps.
 use Rattle.std.proofs.Common.{arith, ◌≡◌, ◌<◌, ◌≤◌, ℕ, ℤ, pos, ◌≤ℤ◌, true, List, None, All, length, map, get_or, unsigned_abs, refl, ◌∙◌, sym, ap, subst}
 use Rattle.std.specs.List.{list_all, range_with_len}
 use Rattle.std.proofs.lemmas.Bool.{ltb-true}

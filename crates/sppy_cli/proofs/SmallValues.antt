@@ -5,9 +5,11 @@ use Rattle.boxed_problem.specs.Facts.{column_size, value_size}
 use Rattle.boxed_problem.specs.Objective.{value_of, value_part}
 use Rattle.boxed_problem.specs.Optimum.{IsFirstLeast}
 use Rattle.boxed_problem.specs.Points.{InBox}
-use Rattle.boxed_problem.specs.Sums.{number_at, sum_below}
+use Rattle.base_words.specs.Sums.{number_at, sum_below}
 use Rattle.boxed_problem.specs.declared.parts.Best.{Best}
-use Rattle.boxed_problem.proofs.Magnitudes.{abs-add, abs-curve, column_within, sum_below-abs}
+use Rattle.base_words.proofs.Magnitudes.{abs-add}
+use Rattle.base_words.proofs.SumBounds.{sum_below-abs}
+use Rattle.boxed_problem.proofs.Magnitudes.{abs-curve, column_within}
 use Rattle.sppy_cli.specs.Scenarios.{factor_of, no_scenario, problem_in, scenario_at}
 use Rattle.sppy_cli.specs.declared.run.Run.{Run}
 use Rattle.sppy_cli.proofs.Costs.{factor_small}

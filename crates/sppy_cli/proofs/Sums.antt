@@ -2,7 +2,7 @@
 use Rattle.std.specs.Prelude.{option_and_then, option_map}
 use Rattle.std.proofs.Common.{arith, ap, ◌∙◌, ◌≡◌, ℕ, ◌+◌, ◌*◌, ◌^◌, ◌≤◌, add-one, ℤ, ◌+ℤ◌, Some, FitsSigned, unsigned_abs}
 use Rattle.std.specs.Int.{w128}
-use Rattle.boxed_problem.proofs.Magnitudes.{abs-add, fits_from_abs}
+use Rattle.base_words.proofs.Magnitudes.{abs-add, fits_from_abs}
 use Rattle.sppy_cli.specs.Scenarios.{least_of, leasts_before}
 use Rattle.sppy_cli.specs.declared.run.Run.{Run}
 

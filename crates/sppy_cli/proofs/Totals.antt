@@ -1,10 +1,11 @@
+-- The sum of the weights, and the unit of a run.
 use Rattle.std.proofs.Common.{arith, ◌*◌, ◌≤◌, ◌≡◌, ℤ, pos, negsuc, ◌+ℤ◌, ◌*ℤ◌, FitsSigned, mul-le-mul, ap, ◌∙◌, ◌≤ℤ◌, ◌<ℤ◌, List, [], ◌∷◌, length, fold}
 use Rattle.std.specs.List.{All, AllByRecursion}
 use Rattle.std.proofs.lemmas.List.Elements.{recursion_from_All}
 use Rattle.std.proofs.lemmas.Int.{ints}
 use Rattle.std.specs.Int.{w128}
-use Rattle.boxed_problem.proofs.Magnitudes.{fits_from_abs}
-use Rattle.sppy_cli.specs.Desk.{unit_of}
+use Rattle.base_words.proofs.Magnitudes.{fits_from_abs}
+use Rattle.sppy_cli.specs.RunText.{unit_of}
 use Rattle.sppy_cli.specs.Program.{total_of}
 use Rattle.sppy_cli.specs.RunFacts.{IsSmallScenario}
 use Rattle.sppy_cli.specs.declared.program.Scenario.{Scenario}

@@ -1,7 +1,9 @@
-use Rattle.std.specs.Prelude.{◌≡◌, ℕ, ◌<◌, List, length, Some}
+-- which status must come: where the files are of the small form and no fault is counted, and where a file is the first wrong one
+
+use Rattle.std.specs.Prelude.{◌≡◌, ℕ, ◌<◌, List, length, Some, Option, IfSome}
 use Rattle.io_edge.specs.Faults.{Rises}
 use Rattle.io_edge.specs.Shelves.{FileTable}
-use Rattle.sppy_cli.specs.Desk.{HasFault, IsRunIn, branches_at, core_at, periods_at}
+use Rattle.sppy_cli.specs.Files.{HasFault, IsRunIn, branches_at, core_at, periods_at}
 use Rattle.sppy_cli.specs.Scenarios.{HasPoint, IsFirstInfeasible}
 use Rattle.sppy_cli.specs.Words.{Request}
 use Rattle.sppy_cli.specs.declared.core_file.Core.{Core}
@@ -33,28 +35,32 @@ pub record AreSmall (table : FileTable) (request : Request) : Type 0 where
 -- else infeasible at the first one that has none; want of memory is free
 abbrev pub EndsBy : FileTable → Request → Status → Type 0
 EndsBy table request status.Done = (run : Run) × IsRunIn table request run × AllHavePoints run
-EndsBy table request (status.Infeasible scenario) = (run : Run) × IsRunIn table request run × IsFirstInfeasible run scenario
+EndsBy table request (status.Infeasible scenario) =
+    (run : Run) × IsRunIn table request run × IsFirstInfeasible run scenario
 EndsBy table request status.Memory = Unit {0}
-EndsBy table request status.Words = ⊥
-EndsBy table request (status.Input fault) = ⊥
-EndsBy table request (status.ReadFault faults) = ⊥
-EndsBy table request (status.WriteFault faults) = ⊥
+EndsBy table request _ = ⊥
 
 -- where the three files are of the small form, and neither the shelf's count nor the sink's rises, the run ends by its points
-abbrev pub IsComplete : FileTable → Request → ℕ → ℕ → ℕ → ℕ → Status → Type 0
-IsComplete table request read read_after written written_after status =
+abbrev pub CompletesIn : FileTable → Request → ℕ → ℕ → ℕ → ℕ → Status → Type 0
+CompletesIn table request read read_after written written_after status =
     AreSmall table request → IsCalm read read_after → IsCalm written written_after → EndsBy table request status
+
+-- the same where the files are told and the words are well formed
+abbrev pub Completes : Option FileTable → Option Request → ℕ → ℕ → ℕ → ℕ → Status → Type 0
+Completes files asked read read_after written written_after status =
+    IfSome files (λ table. IfSome asked (λ request. CompletesIn table request read read_after written written_after status))
 
 -- what a first wrong file leaves: its own fault, unless a load failed or memory was refused
 abbrev pub EndsWrong : InputFault → Status → Type 0
 EndsWrong fault (status.Input found) = found ≡ fault
 EndsWrong fault (status.ReadFault faults) = Unit {0}
 EndsWrong fault status.Memory = Unit {0}
-EndsWrong fault status.Done = ⊥
-EndsWrong fault status.Words = ⊥
-EndsWrong fault (status.Infeasible scenario) = ⊥
-EndsWrong fault (status.WriteFault faults) = ⊥
+EndsWrong fault _ = ⊥
 
 -- a first wrong file is answered as it is
-abbrev pub Refuses : FileTable → Request → Status → Type 0
-Refuses table request status = (fault : InputFault) → HasFault table request fault → EndsWrong fault status
+abbrev pub RefusesIn : FileTable → Request → Status → Type 0
+RefusesIn table request status = (fault : InputFault) → HasFault table request fault → EndsWrong fault status
+
+-- the same where the files are told and the words are well formed
+abbrev pub Refuses : Option FileTable → Option Request → Status → Type 0
+Refuses files asked status = IfSome files (λ table. IfSome asked (λ request. RefusesIn table request status))

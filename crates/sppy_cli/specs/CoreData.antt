@@ -1,3 +1,5 @@
+-- what the lines of a core file say, datum by datum
+
 use Rattle.std.specs.Prelude.{ℕ, ℤ, List, [], ◌∷◌, ◌++◌, ◌==◌, ◌+◌, Bool, Option, None, length, map, drop, reverse, fold, slice_get, if◌then◌else◌, codes}
 use Rattle.std.specs.List.{list_any}
 use Rattle.std.specs.Option.{option_map_or}

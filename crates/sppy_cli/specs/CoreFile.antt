@@ -1,17 +1,15 @@
-use Rattle.std.specs.Prelude.{◌≡◌, ℕ, zero, suc, ℤ, pos, negsuc, List, [], ◌∷◌, ◌++◌, ◌*◌, ◌+◌, Bool, Option, Some, None, ◌&&◌, length, map, nat_le, nat_lt, unsigned_abs, unwrap_or, if◌then◌else◌, slice_index_or}
+-- what a core file says as a whole, and when it is of the small form
+
+use Rattle.std.specs.Prelude.{◌≡◌, ℕ, ℤ, pos, negsuc, List, [], ◌∷◌, ◌*◌, ◌+◌, Bool, Option, Some, None, ◌&&◌, length, map, nat_le, nat_lt, unsigned_abs, unwrap_or, if◌then◌else◌, slice_index_or}
 use Rattle.std.specs.List.{list_all}
+use Rattle.base_words.specs.Gathered.{gathered}
 use Rattle.boxed_problem.specs.declared.parts.Entry.{Entry}
 use Rattle.line_core.specs.declared.line_list.Line.{Line}
 use Rattle.sppy_cli.specs.CoreData.{objective_of, row_names_of, column_names_of, entry_of, right_of, upper_of}
 use Rattle.sppy_cli.specs.CoreForm.{core_fits}
 use Rattle.sppy_cli.specs.Form.{body_of, is_formed}
-use Rattle.sppy_cli.specs.Sections.{all_true}
+use Rattle.base_words.specs.Tests.{all_true}
 use Rattle.sppy_cli.specs.declared.core_file.Core.{Core}
-
--- the lists that f gives for the places below n, one after another
-abbrev pub gathered : {X : Type 0} → ℕ → (ℕ → List X) → List X
-gathered zero f = []
-gathered (suc n) f = gathered n f ++ f n
 
 -- the text at a place; empty past the end
 abbrev pub text_at : List (List ℕ) → ℕ → List ℕ
@@ -51,19 +49,19 @@ core_in text body = record {
 }
 
 -- how many whole numbers lie from 0 to an upper end
-abbrev pub count_to : Option ℤ → ℕ
-count_to None = 0
-count_to (Some (pos n)) = n + 1
-count_to (Some (negsuc n)) = 0
+abbrev pub end_count : Option ℤ → ℕ
+end_count None = 0
+end_count (Some (pos n)) = n + 1
+end_count (Some (negsuc n)) = 0
 
 -- how many points the box has
 abbrev pub box_count : List (Option ℤ) → ℕ
 box_count [] = 1
-box_count (upper ∷ uppers) = count_to upper * box_count uppers
+box_count (upper ∷ uppers) = end_count upper * box_count uppers
 
 -- an upper end from 0 to 999
 abbrev pub is_narrow : Option ℤ → Bool
-is_narrow upper = nat_le 1 (count_to upper) && nat_le (count_to upper) 1000
+is_narrow upper = nat_le 1 (end_count upper) && nat_le (end_count upper) 1000
 
 -- one to eight
 abbrev pub is_few : ℕ → Bool

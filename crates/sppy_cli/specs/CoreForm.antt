@@ -1,10 +1,13 @@
+-- when a line of a core file is in its place
+
 use Rattle.std.specs.Prelude.{ℕ, List, [], ◌∷◌, ◌==◌, ◌+◌, ◌-◌, Bool, true, false, ◌&&◌, ◌||◌, length, drop, is_some, is_none, nat_lt, not, slice_get, if◌then◌else◌, codes}
 use Rattle.std.specs.Option.{option_map_or}
 use Rattle.std.specs.Str.{bytes_eq}
 use Rattle.line_core.specs.Lines.{field_text}
 use Rattle.line_core.specs.declared.line_list.Line.{Line}
 use Rattle.sppy_cli.specs.Numerals.{whole_of}
-use Rattle.sppy_cli.specs.Sections.{all_true, section, section_name, has_word, is_named}
+use Rattle.base_words.specs.Tests.{all_true}
+use Rattle.sppy_cli.specs.Sections.{section, section_name, has_word, is_named}
 use Rattle.sppy_cli.specs.CoreData.{has_second, entry_of, right_of, upper_of}
 
 -- a line has one or two pairs behind its first field

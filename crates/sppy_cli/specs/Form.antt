@@ -1,9 +1,11 @@
+-- when a file is formed: each line up to its end is in its place
+
 use Rattle.std.specs.Prelude.{ℕ, zero, suc, List, Bool, true, false, Option, Some, None, ◌&&◌, length, take, nat_lt, if◌then◌else◌, Result, Ok, Err, [], slice_index_or, codes, ◌+◌}
 use Rattle.std.specs.List.{position_or_len}
 use Rattle.line_core.specs.Lines.{lines_of}
 use Rattle.line_core.specs.declared.line_list.Line.{Line}
 use Rattle.line_core.specs.declared.line_list.LineFault.{LineFault}
-use Rattle.sppy_cli.specs.Sections.{is_header}
+use Rattle.sppy_cli.specs.Sections.{is_header_named}
 
 -- what stands at a place past the end
 abbrev pub no_line : Line
@@ -16,7 +18,7 @@ fit_to fits lines (suc n) = fit_to fits lines n && fits (take n lines) (slice_in
 
 -- the place of the line that ends the file; the length where there is none
 abbrev pub end_place : List ℕ → List Line → ℕ
-end_place text lines = position_or_len (is_header text (codes "ENDATA")) lines
+end_place text lines = position_or_len (is_header_named text (codes "ENDATA")) lines
 
 -- the lines before the end of a file; none of them where the text has a fault
 abbrev pub body_in : List ℕ → Result (List Line) LineFault → List Line

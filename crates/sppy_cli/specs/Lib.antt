@@ -15,7 +15,9 @@ pub mod RunFacts
 pub mod Scenarios
 pub mod WaitAnswers
 pub mod Runs
-pub mod Desk
+pub mod Files
+pub mod InTurn
+pub mod RunText
 pub mod Loads
-pub mod Answers
+pub mod Desk
 pub mod Complete

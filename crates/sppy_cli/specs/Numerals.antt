@@ -1,3 +1,5 @@
+-- the whole numbers that texts write
+
 use Rattle.std.specs.Prelude.{ℕ, ℤ, pos, List, [], ◌∷◌, ◌==◌, Bool, Option, Some, None, ◌&&◌, length, if◌then◌else◌, nat_le, option_map, neg_ℤ}
 use Rattle.std.specs.List.{list_all}
 use Rattle.std.specs.Str.Parse.{digits_value}

@@ -1,3 +1,5 @@
+-- the program that three files say
+
 use Rattle.std.specs.Prelude.{ℕ, ℤ, pos, List, ◌-◌, ◌*◌, ◌^◌, ◌+ℤ◌, Some, None, length, map, max, fold, nat_lt, unwrap_or, if◌then◌else◌, slice_index_or}
 use Rattle.std.specs.List.{range_with_len}
 use Rattle.sppy_cli.specs.declared.core_file.Core.{Core}

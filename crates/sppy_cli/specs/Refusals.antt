@@ -1,3 +1,5 @@
+-- what the reader of a file answers
+
 use Rattle.std.specs.Prelude.{◌≡◌, Option, Some, None, Result, Ok, Err}
 use Rattle.sppy_cli.specs.declared.form.Refusal.{Refusal}
 use Rattle.sppy_cli.specs.declared.form.Refusal.TheVariants.{Unbuilt, Memory}

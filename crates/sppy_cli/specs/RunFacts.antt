@@ -1,3 +1,5 @@
+-- what a run keeps, so that no sum leaves 128 bits
+
 use Rattle.std.specs.Prelude.{◌≡◌, ℕ, ℤ, pos, ◌+◌, ◌<◌, ◌≤◌, ◌≤ℤ◌, length, map, None, unsigned_abs}
 use Rattle.std.specs.List.{All}
 use Rattle.boxed_problem.specs.Facts.{ComesBefore, entry_at, limit_size}

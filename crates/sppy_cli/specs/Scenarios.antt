@@ -1,3 +1,5 @@
+-- the problem of each scenario of a run, and the wait-and-see bound
+
 use Rattle.std.specs.Prelude.{ℕ, zero, suc, ℤ, pos, List, [], ◌∷◌, ◌==◌, ◌<◌, ◌+ℤ◌, ◌*ℤ◌, Option, Some, None, length, map, if◌then◌else◌, slice_index_or, option_map, option_and_then}
 use Rattle.std.specs.List.{range_with_len}
 use Rattle.boxed_problem.specs.Data.{Problem}

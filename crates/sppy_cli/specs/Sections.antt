@@ -1,22 +1,19 @@
-use Rattle.std.specs.Prelude.{ℕ, List, [], Bool, true, false, Option, Some, None, ◌&&◌, if◌then◌else◌, reverse, find, ◌∷◌}
+-- the sections of a file and what their lines give
+
+use Rattle.std.specs.Prelude.{ℕ, List, [], Bool, Option, Some, None, ◌&&◌, reverse, find, ◌∷◌}
 use Rattle.std.specs.Option.{option_map_or}
 use Rattle.std.specs.List.{before_first, after_first, list_any}
 use Rattle.std.specs.Str.{bytes_eq}
 use Rattle.line_core.specs.Lines.{field_text}
 use Rattle.line_core.specs.declared.line_list.Line.{Line}
 
--- all of these tests hold
-abbrev pub all_true : List Bool → Bool
-all_true [] = true
-all_true (test ∷ rest) = if test then all_true rest else false
-
 -- a line that begins a section, under this name
-abbrev pub is_header : List ℕ → List ℕ → Line → Bool
-is_header text name line = line.header && bytes_eq (field_text text 0 line) name
+abbrev pub is_header_named : List ℕ → List ℕ → Line → Bool
+is_header_named text name line = line.header && bytes_eq (field_text text 0 line) name
 
 -- the data lines behind a header, up to the next header
 abbrev pub section : List ℕ → List ℕ → List Line → List Line
-section text name lines = before_first (λ line. line.header) (after_first (is_header text name) lines)
+section text name lines = before_first (λ line. line.header) (after_first (is_header_named text name) lines)
 
 -- the name of the last header; empty where there is none
 abbrev pub section_name : List ℕ → List Line → List ℕ

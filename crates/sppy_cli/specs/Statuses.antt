@@ -1,4 +1,6 @@
-use Rattle.std.specs.Prelude.{ℕ, List, [], ◌+◌, ◌++◌, codes, decimal}
+-- what a status is, as the user sees it and as the other definitions ask it
+
+use Rattle.std.specs.Prelude.{ℕ, List, [], ◌+◌, ◌++◌, codes, decimal, Option, Some, None, Result, Ok, Err}
 use Rattle.sppy_cli.specs.declared.status.InputFault.{InputFault}
 use Rattle.sppy_cli.specs.declared.status.InputFile.{InputFile}
 use Rattle.sppy_cli.specs.declared.status.InputFile.TheVariants.{Core, Time, Stoch}
@@ -43,3 +45,18 @@ status_line (status.Infeasible scenario) = line_of (codes "sppy: infeasible " ++
 status_line (status.ReadFault faults) = line_of (codes "sppy: read fault " ++ decimal faults)
 status_line (status.WriteFault faults) = line_of (codes "sppy: write fault " ++ decimal faults)
 status_line status.Memory = line_of (codes "sppy: memory")
+
+-- the count of faults that a read fault reports; no other status reports one
+abbrev pub read_fault_of : Status → Option ℕ
+read_fault_of (status.ReadFault faults) = Some faults
+read_fault_of _ = None
+
+-- the count of faults that a write fault reports; no other status reports one
+abbrev pub write_fault_of : Status → Option ℕ
+write_fault_of (status.WriteFault faults) = Some faults
+write_fault_of _ = None
+
+-- the count that a call reports where it ends by a fault
+abbrev pub reported : {X E : Type 0} → (E → Option ℕ) → Result X E → Option ℕ
+reported count_of (Ok x) = None
+reported count_of (Err fault) = count_of fault

@@ -1,3 +1,5 @@
+-- what a stoch file says, and when it is of the small form
+
 use Rattle.std.specs.Prelude.{◌≡◌, ℕ, pos, List, [], ◌∷◌, ◌++◌, ◌==◌, ◌-◌, Bool, Option, Some, None, ◌&&◌, ◌||◌, length, map, nat_le, nat_lt, not, reverse, is_some, unwrap_or, if◌then◌else◌, codes}
 use Rattle.std.specs.List.{list_all, list_any, filter, before_first}
 use Rattle.std.specs.Str.{bytes_eq}
@@ -6,8 +8,9 @@ use Rattle.line_core.specs.declared.line_list.Line.{Line}
 use Rattle.sppy_cli.specs.CoreFile.{is_moderate}
 use Rattle.sppy_cli.specs.Form.{body_of, is_formed}
 use Rattle.sppy_cli.specs.Numerals.{whole_of}
-use Rattle.sppy_cli.specs.Sections.{all_true, section, section_name, has_word, is_named}
-use Rattle.sppy_cli.specs.TimeFile.{number_of}
+use Rattle.base_words.specs.Tests.{all_true}
+use Rattle.sppy_cli.specs.Sections.{section, section_name, has_word, is_named}
+use Rattle.sppy_cli.specs.TimeFile.{place_of_name}
 use Rattle.sppy_cli.specs.declared.core_file.Core.{Core}
 use Rattle.sppy_cli.specs.declared.stoch_file.Branch.{Branch}
 use Rattle.sppy_cli.specs.declared.stoch_file.Probability.{Probability}
@@ -60,7 +63,7 @@ latest text lines = before_first (begins_scenario text) (reverse lines)
 
 -- a name of a row of the second period
 abbrev pub is_late_row : Core → Periods → List ℕ → Bool
-is_late_row core periods name = nat_le periods.row (number_of core.rows name) && nat_lt (number_of core.rows name) (length core.rows)
+is_late_row core periods name = nat_le periods.row (place_of_name core.rows name) && nat_lt (place_of_name core.rows name) (length core.rows)
 
 -- a right side of the present scenario in its place: a row of the second period that has none yet, a whole number.
 -- A first field that is a column's name would be that column
@@ -101,14 +104,14 @@ stoch_fits core periods text before line =
     else (bytes_eq (section_name text before) (codes "SCENARIOS") && scenario_line_fits core periods text (section text (codes "SCENARIOS") before) line)
 
 -- the right side that a line gives a row
-abbrev pub side_of : Core → List ℕ → Line → RightSide
-side_of core text line = record { row = number_of core.rows (field_text text 1 line); value = unwrap_or (whole_of (field_text text 2 line)) (pos 0) }
+abbrev pub rhs_of : Core → List ℕ → Line → RightSide
+rhs_of core text line = record { row = place_of_name core.rows (field_text text 1 line); value = unwrap_or (whole_of (field_text text 2 line)) (pos 0) }
 
 -- a scenario: the probability of its first line, and the right sides of the lines up to the next scenario
 abbrev pub branch_of : Core → List ℕ → Line → List Line → Branch
 branch_of core text line lines = record {
   probability = unwrap_or (probability_of (field_text text 3 line)) (record { mantissa = 1; places = 0 });
-  sides = map (side_of core text) (before_first (begins_scenario text) lines);
+  sides = map (rhs_of core text) (before_first (begins_scenario text) lines);
 }
 
 -- the scenario of a line that begins one, with the lines behind it

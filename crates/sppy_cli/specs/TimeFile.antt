@@ -1,3 +1,5 @@
+-- what a time file says, and when it is of the small form
+
 use Rattle.std.specs.Prelude.{◌≡◌, ℕ, List, [], ◌∷◌, ◌==◌, ◌+◌, ◌-◌, Bool, Option, Some, None, ◌&&◌, ◌||◌, length, nat_le, nat_lt, not, slice_get, if◌then◌else◌, slice_index_or, codes}
 use Rattle.std.specs.List.{list_all, list_any, position_or_len}
 use Rattle.std.specs.Option.{option_map_or}
@@ -7,13 +9,14 @@ use Rattle.line_core.specs.Fields.{span_text}
 use Rattle.line_core.specs.Lines.{field_text}
 use Rattle.line_core.specs.declared.line_list.Line.{Line}
 use Rattle.sppy_cli.specs.Form.{body_of, is_formed, no_line}
-use Rattle.sppy_cli.specs.Sections.{all_true, section, section_name, has_word, is_named}
+use Rattle.base_words.specs.Tests.{all_true}
+use Rattle.sppy_cli.specs.Sections.{section, section_name, has_word, is_named}
 use Rattle.sppy_cli.specs.declared.core_file.Core.{Core}
 use Rattle.sppy_cli.specs.declared.time_file.Periods.{Periods}
 
 -- the number of a name among names, from 0; as many as there are where it isn't one of them
-abbrev pub number_of : List (List ℕ) → List ℕ → ℕ
-number_of names name = position_or_len (λ known. bytes_eq known name) names
+abbrev pub place_of_name : List (List ℕ) → List ℕ → ℕ
+place_of_name names name = position_or_len (λ known. bytes_eq known name) names
 
 -- the rows of a core: the objective, then the constraint rows
 abbrev pub all_rows : Core → List (List ℕ)
@@ -21,10 +24,10 @@ all_rows core = core.objective ∷ core.rows
 
 -- the column and the row at which the period of a line begins
 abbrev pub column_at : Core → List ℕ → Line → ℕ
-column_at core text line = number_of core.columns (field_text text 0 line)
+column_at core text line = place_of_name core.columns (field_text text 0 line)
 
 abbrev pub row_at : Core → List ℕ → Line → ℕ
-row_at core text line = number_of (all_rows core) (field_text text 1 line)
+row_at core text line = place_of_name (all_rows core) (field_text text 1 line)
 
 -- a period begins after another one, in the columns and in the rows
 abbrev pub begins_after : Core → List ℕ → Line → Line → Bool

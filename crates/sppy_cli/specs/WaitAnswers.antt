@@ -1,3 +1,5 @@
+-- what the sum of the least values answers
+
 use Rattle.std.specs.Prelude.{◌≡◌, ℤ, Some, Result, Ok, Err}
 use Rattle.sppy_cli.specs.Scenarios.{IsFirstInfeasible, wait_and_see_of}
 use Rattle.sppy_cli.specs.declared.run.Run.{Run}

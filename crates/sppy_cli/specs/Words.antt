@@ -1,8 +1,10 @@
+-- what the words of a command ask for
+
 use Rattle.std.specs.Prelude.{ℕ, pos, ◌≤ℤ◌, List, [], ◌∷◌, Bool, true, ◌==◌, Option, Some, None, ◌&&◌, length, nat_le, not, if◌then◌else◌, codes, option_map, option_and_then}
 use Rattle.std.specs.Str.{bytes_eq}
 use Rattle.sppy_cli.specs.CoreFile.{text_at}
 use Rattle.sppy_cli.specs.Numerals.{numeral_of}
-use Rattle.sppy_cli.specs.Sections.{all_true}
+use Rattle.base_words.specs.Tests.{all_true}
 use Rattle.sppy_cli.specs.declared.program.Options.{Options}
 use Rattle.sppy_cli.specs.declared.words.Command.{Command}
 

@@ -1,6 +1,6 @@
 ghost use Rattle.std.specs.Prelude.{◌≡◌, nat_le, true};
 ghost use Rattle.std.specs.List.{list_all};
-ghost use Rattle.sppy_cli.specs.CoreFile.{box_count, count_to, is_few, is_moderate, is_narrow, is_small};
+ghost use Rattle.sppy_cli.specs.CoreFile.{box_count, end_count, is_few, is_moderate, is_narrow, is_small};
 
 use crate::core_file::Core;
 use boxed_problem::Entry;
@@ -9,8 +9,8 @@ use wide_num::List;
 const MOST_POINTS: u128 = 1000000;
 
 // How many whole numbers lie from 0 to an upper end; 0 where it has none.
-fn count_to(upper: Option<i128>) -> u128
-    ensures { result ≡ count_to upper }
+fn end_count(upper: Option<i128>) -> u128
+    ensures { result ≡ end_count upper }
 {
     match upper {
         Some(most) if most >= 0 => most.unsigned_abs() + 1,
@@ -22,7 +22,7 @@ fn count_to(upper: Option<i128>) -> u128
 fn is_narrow(upper: Option<i128>) -> bool
     ensures { result ≡ is_narrow upper }
 {
-    let count = count_to(upper);
+    let count = end_count(upper);
     1 <= count && count <= 1000
 }
 
@@ -42,7 +42,7 @@ fn has_few_points(uppers: &List<Option<i128>>) -> bool
     let mut n = ends.len();
     while n > 0 {
         n -= 1;
-        count *= count_to(ends[n]);
+        count *= end_count(ends[n]);
         if count > MOST_POINTS {
             return false;
         }

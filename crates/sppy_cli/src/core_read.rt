@@ -2,7 +2,7 @@ ghost use Rattle.std.specs.Prelude.{◌≡◌, ◌∷◌, ◌++◌, ◌<◌, ◌
 ghost use Rattle.std.specs.List.{list_all, list_any};
 ghost use Rattle.std.specs.Str.{bytes_eq};
 ghost use Rattle.sppy_cli.specs.CoreData.{column_names_of, distinct, objective_of, row_names_of, upper_of, with_name};
-ghost use Rattle.sppy_cli.specs.CoreFile.{box_count, column_entries, core_in, core_of, cost_of, count_to, entries_of, entry_list, is_few, is_narrow, is_small, limit_of};
+ghost use Rattle.sppy_cli.specs.CoreFile.{box_count, column_entries, core_in, core_of, cost_of, end_count, entries_of, entry_list, is_few, is_narrow, is_small, limit_of};
 ghost use Rattle.sppy_cli.specs.Form.{passing};
 ghost use Rattle.sppy_cli.specs.Refusals.{ReadAnswers};
 

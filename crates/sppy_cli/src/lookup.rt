@@ -2,7 +2,7 @@ ghost use Rattle.std.specs.Prelude.{◌≡◌, find, reverse};
 ghost use Rattle.std.specs.List.{position_or_len};
 ghost use Rattle.std.specs.Option.{option_copied};
 ghost use Rattle.std.specs.Str.{bytes_eq};
-ghost use Rattle.sppy_cli.specs.Sections.{is_header, section, section_name, has_word, is_named};
+ghost use Rattle.sppy_cli.specs.Sections.{is_header_named, section, section_name, has_word, is_named};
 
 use line_core::Line;
 
@@ -21,8 +21,8 @@ pub fn has_word(bytes: &[u8], k: usize, word: &[u8], line: &Line) -> bool
 }
 
 /// Whether the line begins a section under this name.
-pub fn is_header(bytes: &[u8], name: &[u8], line: &Line) -> bool
-    ensures { result ≡ is_header bytes.now name.now line.now }
+pub fn is_header_named(bytes: &[u8], name: &[u8], line: &Line) -> bool
+    ensures { result ≡ is_header_named bytes.now name.now line.now }
 {
     line.header && has_word(bytes, 0, name, line)
 }
@@ -36,10 +36,10 @@ pub fn is_named(bytes: &[u8], k: usize, word: &[u8], lines: &[Line]) -> bool
 
 /// The place of the first header under this name; the length where there is none.
 pub fn header_place(bytes: &[u8], name: &[u8], lines: &[Line]) -> usize
-    ensures { result ≡ position_or_len (is_header bytes.now name.now) lines.now }
+    ensures { result ≡ position_or_len (is_header_named bytes.now name.now) lines.now }
 {
     for (i, line) in lines.iter().enumerate() {
-        if is_header(bytes, name, line) {
+        if is_header_named(bytes, name, line) {
             return i;
         }
     }

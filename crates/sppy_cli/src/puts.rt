@@ -1,8 +1,8 @@
-ghost use Rattle.std.specs.Prelude.{◌≡◌, ◌<ℤ◌, ◌≤◌, ◌^◌, OnErr, OnOk, pos, unsigned_abs};
+ghost use Rattle.std.specs.Prelude.{◌≡◌, ◌<ℤ◌, ◌≤◌, ◌^◌, pos, unsigned_abs};
 ghost use Rattle.std.specs.List.{concat};
-ghost use Rattle.io_edge.specs.Sinks.{appended};
-ghost use Rattle.sppy_cli.specs.Answers.{CountsPuts, PutsBound, status_of_put};
-ghost use Rattle.sppy_cli.specs.Desk.{Appends, heading_of, heading_text, unit_of};
+ghost use Rattle.io_edge.specs.Faults.{CountsTo};
+ghost use Rattle.sppy_cli.specs.RunText.{PutsBound, PutsText, heading_of, heading_text, unit_of};
+ghost use Rattle.sppy_cli.specs.Statuses.{reported, write_fault_of};
 ghost use Rattle.sppy_cli.specs.Texts.{AreFull};
 
 use crate::run::Run;
@@ -13,39 +13,19 @@ use io_edge::{EdgeFault, Sink};
 use std::alloc::Global;
 use wide_num::{List, Text};
 
-/// Why a text isn't written whole.
-#[derive(Clone, Copy, Debug, Drop, PartialEq, Eq)]
-pub enum PutFailure {
-    /// A put failed; the sink's count of faults after it.
-    Failed { faults: u64 },
-    Memory,
-}
-
-impl PutFailure {
-    /// The status of a command that ends so.
-    pub fn status(self) -> Status
-        ensures { result ≡ status_of_put self }
-    {
-        match self {
-            PutFailure::Failed { faults } => Status::WriteFault { faults },
-            PutFailure::Memory => Status::Memory,
-        }
-    }
-}
-
-// Writes lines, each by one put.
-fn put_lines<K: Sink>(out: &mut K, lines: &List<Text>) -> Result<(), PutFailure>
+// Writes lines, each by one put. Where one fails, nothing more is put, and the
+// answer is the status of the command.
+fn put_lines<K: Sink>(out: &mut K, lines: &List<Text>) -> Result<(), Status>
     requires { AreFull lines.now }
-    ensures ok { OnOk result (K.written out.new ≡ appended (K.written out.old) (concat lines.now)) }
-    ensures err { OnErr result (Appends (K.written out.old) (K.written out.new)) }
-    ensures count { CountsPuts (K.count out.old) (K.count out.new) result }
+    ensures text { PutsText (concat lines.now) (K.written out.old) (K.written out.new) result }
+    ensures count { CountsTo (K.count out.old) (K.count out.new) (reported write_fault_of result) }
 {
     match write_lines(out, lines) {
         Ok(()) => Ok(()),
-        Err(EdgeFault::Failed) => Err(PutFailure::Failed {
+        Err(EdgeFault::Failed) => Err(Status::WriteFault {
             faults: out.faults(),
         }),
-        Err(EdgeFault::Memory) => Err(PutFailure::Memory),
+        Err(EdgeFault::Memory) => Err(Status::Memory),
     }
 }
 
@@ -75,32 +55,28 @@ fn heading_of(run: &Run) -> Heading
     }
 }
 
-/// Writes the heading of a run.
-pub fn put_heading<K: Sink>(alloc: Global, out: &mut K, run: &Run) -> Result<(), PutFailure>
-    ensures ok { OnOk result (K.written out.new ≡ appended (K.written out.old) (heading_text run.now)) }
-    ensures err { OnErr result (Appends (K.written out.old) (K.written out.new)) }
-    ensures count { CountsPuts (K.count out.old) (K.count out.new) result }
+/// Writes the heading of a run. Where a put fails or memory is refused, a front
+/// of it is written, and the answer is the status of the command.
+pub fn put_heading<K: Sink>(alloc: Global, out: &mut K, run: &Run) -> Result<(), Status>
+    ensures text { PutsText (heading_text run.now) (K.written out.old) (K.written out.new) result }
+    ensures count { CountsTo (K.count out.old) (K.count out.new) (reported write_fault_of result) }
 {
     let Ok(lines) = heading_lines(alloc, &heading_of(run)) else {
-        return Err(PutFailure::Memory);
+        return Err(Status::Memory);
     };
     put_lines(out, &lines)
 }
 
-/// Writes the bound of a run as the first pair and the last.
-pub fn put_bound<K: Sink>(
-    alloc: Global,
-    out: &mut K,
-    run: &Run,
-    bound: i128,
-) -> Result<(), PutFailure>
+/// Writes the bound of a run as the first pair and the last. Where a put fails or
+/// memory is refused, a front of these lines is written, and the answer is the
+/// status of the command.
+pub fn put_bound<K: Sink>(alloc: Global, out: &mut K, run: &Run, bound: i128) -> Result<(), Status>
     requires { unsigned_abs bound ≤ 2 ^ 70 }
-    ensures ok { OnOk result (PutsBound run.now bound (K.written out.old) (K.written out.new)) }
-    ensures err { OnErr result (Appends (K.written out.old) (K.written out.new)) }
-    ensures count { CountsPuts (K.count out.old) (K.count out.new) result }
+    ensures text { PutsBound run.now bound (K.written out.old) (K.written out.new) result }
+    ensures count { CountsTo (K.count out.old) (K.count out.new) (reported write_fault_of result) }
 {
     let Ok(lines) = bound_lines(alloc, bound, unit(run)) else {
-        return Err(PutFailure::Memory);
+        return Err(Status::Memory);
     };
     put_lines(out, &lines)
 }

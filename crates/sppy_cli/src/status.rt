@@ -1,4 +1,4 @@
-ghost use Rattle.std.specs.Prelude.{◌≡◌, ◌++◌, IfOk, codes, decimal};
+ghost use Rattle.std.specs.Prelude.{◌≡◌, ◌≢◌, ◌++◌, IfOk, OnErr, codes, decimal};
 ghost use Rattle.sppy_cli.specs.Statuses.{code_of, fault_text, file_word, kind_word, status_line};
 ghost use Rattle.sppy_cli.specs.Texts.{line_of};
 
@@ -114,7 +114,8 @@ impl Status {
 
     /// The line on standard error, with its newline; empty where all was done.
     pub fn line(&self, alloc: Global) -> Result<Text, AllocError>
-        ensures { IfOk result (λ line. line ≡ status_line self.now) }
+        ensures line { IfOk result (λ line. line ≡ status_line self.now) }
+        ensures done { OnErr result (self.now ≢ Status.Done) }
     {
         match self {
             Status::Done => Ok(List::new(alloc)),

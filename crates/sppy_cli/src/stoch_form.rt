@@ -1,7 +1,8 @@
 ghost use Rattle.std.specs.Prelude.{◌≡◌, [], ◌∷◌, ◌==◌, ◌&&◌, ◌||◌, codes, length};
 ghost use Rattle.std.specs.List.{filter, list_any};
 ghost use Rattle.std.specs.Str.{bytes_eq};
-ghost use Rattle.sppy_cli.specs.Sections.{all_true, has_word, is_named, section, section_name};
+ghost use Rattle.base_words.specs.Tests.{all_true};
+ghost use Rattle.sppy_cli.specs.Sections.{has_word, is_named, section, section_name};
 ghost use Rattle.sppy_cli.specs.StochFile.{are_tenths, begins_scenario, branch_fits, has_branch, is_late_row, is_root, is_tenth, latest, probability_of, scenario_line_fits, side_fits, stoch_fits, stoch_header_fits};
 
 use crate::core_file::Core;
@@ -11,7 +12,7 @@ use crate::lookup::{has_word, is_named, same, section, section_name};
 use crate::numeral::whole;
 use crate::stoch_file::Probability;
 use crate::time_file::Periods;
-use crate::time_read::number_of;
+use crate::time_read::place_of_name;
 use line_core::Line;
 
 /// Whether a line begins a scenario.
@@ -149,7 +150,7 @@ fn has_scenario(bytes: &[u8], lines: &[Line]) -> bool
 fn is_late_row(core: &Core, periods: &Periods, name: &[u8]) -> bool
     ensures { result ≡ is_late_row core.now periods.now name.now }
 {
-    let row = number_of(&core.rows, name);
+    let row = place_of_name(&core.rows, name);
     periods.row as usize <= row && row < core.rows.len()
 }
 

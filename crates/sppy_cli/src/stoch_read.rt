@@ -4,7 +4,7 @@ ghost use Rattle.sppy_cli.specs.CoreFile.{IsCore};
 ghost use Rattle.sppy_cli.specs.Form.{passing};
 ghost use Rattle.sppy_cli.specs.Refusals.{ReadAnswers};
 ghost use Rattle.sppy_cli.specs.Sections.{section};
-ghost use Rattle.sppy_cli.specs.StochFile.{are_small_branches, begins_scenario, branch_list, branch_of, branches_in, branches_of, is_small_branch, scenarios_in, side_of};
+ghost use Rattle.sppy_cli.specs.StochFile.{are_small_branches, begins_scenario, branch_list, branch_of, branches_in, branches_of, is_small_branch, scenarios_in, rhs_of};
 
 use crate::core_file::Core;
 use crate::core_limits::is_moderate;
@@ -14,7 +14,7 @@ use crate::numeral::whole;
 use crate::stoch_file::{Branch, Probability, RightSide};
 use crate::stoch_form::{StochForm, begins_scenario, probability};
 use crate::time_file::Periods;
-use crate::time_read::number_of;
+use crate::time_read::place_of_name;
 use line_core::Line;
 use std::alloc::{AllocError, Global};
 use wide_num::List;
@@ -39,11 +39,11 @@ fn own_lines<'a>(bytes: &[u8], lines: &'a [Line]) -> &'a [Line]
 }
 
 // The right side that a line gives a row.
-fn side_of(core: &Core, bytes: &[u8], line: &Line) -> RightSide
+fn rhs_of(core: &Core, bytes: &[u8], line: &Line) -> RightSide
     requires { length core.now.rows ≤ 8 }
-    ensures { result ≡ side_of core.now bytes.now line.now }
+    ensures { result ≡ rhs_of core.now bytes.now line.now }
 {
-    let row = number_of(&core.rows, line.field(bytes, 1)) as u32;
+    let row = place_of_name(&core.rows, line.field(bytes, 1)) as u32;
     let value = whole(line.field(bytes, 2)).unwrap_or(0);
     RightSide { row, value }
 }
@@ -55,11 +55,11 @@ fn sides(
     lines: &[Line],
 ) -> Result<List<RightSide>, AllocError>
     requires { length core.now.rows ≤ 8 }
-    ensures { IfOk result (λ sides. sides ≡ map (side_of core.now bytes.now) lines.now) }
+    ensures { IfOk result (λ sides. sides ≡ map (rhs_of core.now bytes.now) lines.now) }
 {
     let mut sides = List::new(alloc);
     for line in lines {
-        sides.push(side_of(core, bytes, line))?;
+        sides.push(rhs_of(core, bytes, line))?;
     }
     Ok(sides)
 }

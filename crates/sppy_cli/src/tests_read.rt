@@ -15,13 +15,6 @@ use std::process::Abort;
 use std::test::Fail;
 use wide_num::{List, Text};
 
-// The files of the worked example.
-const SMALL: [&str; 3] = [
-    "NAME SMALL\nROWS\n N COST\n G NEED\nCOLUMNS\n X COST 1 NEED 1\n Y COST 3 NEED 1\nRHS\n RHS NEED 2\nBOUNDS\n UP BND X 10\n UP BND Y 10\nENDATA\n",
-    "TIME SMALL\nPERIODS\n X COST T1\n Y NEED T2\nENDATA\n",
-    "STOCH SMALL\nSCENARIOS DISCRETE\n SC LOW ROOT 0.5 T2\n RHS NEED 2\n SC HIGH ROOT 0.5 T2\n RHS NEED 6\nENDATA\n",
-];
-
 // Two rows, three columns, comments, carriage returns, a tab, bytes behind the end; no NAME, no RHS, no TIME.
 const WIDE: [&str; 3] = [
     "* a comment\nROWS\r\n N COST\n G R1\n G R2\nCOLUMNS\n\tA R2 -4 COST 7\n A R1 2\n\n B R1 1\n C COST -999999 R2 3\nBOUNDS\n UP S B 0\n UP S A 999\n UP S C 4\nENDATA\nwhat stands here is not read\n",
@@ -65,14 +58,6 @@ fn expect_core(rt: &impl Abort, core: &Core, said: &Said<'_>) {
 
 #[test]
 fn cores_are_read(rt: HostRuntime) -> Result<(), Fail> {
-    let small = Said {
-        rows: &["NEED"],
-        columns: &["X", "Y"],
-        costs: &[1, 3],
-        uppers: &[Some(10), Some(10)],
-        limits: &[2],
-        entries: &[entry(0, 0, 1), entry(0, 1, 1)],
-    };
     let wide = Said {
         rows: &["R1", "R2"],
         columns: &["A", "B", "C"],
@@ -86,11 +71,9 @@ fn cores_are_read(rt: HostRuntime) -> Result<(), Fail> {
             entry(1, 2, 3),
         ],
     };
-    for (files, said) in [(SMALL, small), (WIDE, wide)] {
-        match read_core(rt.alloc(), files[0].as_bytes()) {
-            Ok(core) => expect_core(&rt, &core, &said),
-            Err(_) => assert!(rt; false),
-        }
+    match read_core(rt.alloc(), WIDE[0].as_bytes()) {
+        Ok(core) => expect_core(&rt, &core, &wide),
+        Err(_) => assert!(rt; false),
     }
     Ok(())
 }
@@ -138,23 +121,7 @@ fn expect_branches(
 #[test]
 fn periods_and_scenarios_are_read(rt: HostRuntime) -> Result<(), Fail> {
     let alloc = rt.alloc();
-    let half = Probability {
-        mantissa: 5,
-        places: 1,
-    };
-    let Ok((periods, branches)) = behind_core(alloc, &SMALL) else {
-        assert!(rt; false);
-        return Ok(());
-    };
-    assert!(rt; periods.second.as_slice() == "T2".as_bytes());
-    assert_eq!(rt; (periods.column, periods.row), (1, 0));
     let side = |row, value| Some(RightSide { row, value });
-    expect_branches(
-        &rt,
-        branches.as_slice(),
-        &[half, half],
-        &[side(0, 2), side(0, 6)],
-    );
     let Ok((periods, branches)) = behind_core(alloc, &WIDE) else {
         assert!(rt; false);
         return Ok(());
@@ -233,87 +200,9 @@ fn runs_are_joined(rt: HostRuntime) -> Result<(), Fail> {
 #[test]
 fn bounds_are_summed(rt: HostRuntime) -> Result<(), Fail> {
     let alloc = rt.alloc();
-    for (files, bound) in [(SMALL, 80), (WIDE, -103999896)] {
-        match run_of(alloc, &files) {
-            Ok(run) => assert_eq!(rt; wait_and_see(alloc, &run), Ok(bound)),
-            Err(_) => assert!(rt; false),
-        }
-    }
-    Ok(())
-}
-
-// A core file with these sections.
-fn core_text(alloc: Global, sections: &[&str; 4]) -> Result<String, Fail> {
-    let [rows, columns, rights, bounds] = *sections;
-    Ok(format!(in alloc; "ROWS\n{rows}COLUMNS\n{columns}RHS\n{rights}BOUNDS\n{bounds}ENDATA\n")?)
-}
-
-#[test]
-fn other_cores_are_refused(rt: HostRuntime) -> Result<(), Fail> {
-    let alloc = rt.alloc();
-    let right = [
-        " N C\n G R\n",
-        " X C 1 R 1\n Y R 1\n",
-        " S R 2\n",
-        " UP B X 1\n UP B Y 1\n",
-    ];
-    assert!(rt; read_core(alloc, core_text(alloc, &right)?.as_bytes()).is_ok());
-    for (section, text) in [
-        (0, " N C\n G R\n G R\n"),
-        (0, " N C\n G C\n G R\n"),
-        (0, " N C\n"),
-        (0, " N C\n L R\n"),
-        (0, " G R\n N C\n"),
-        (0, " N C\n G R\u{e9}\n"),
-        (1, ""),
-        (1, " X C 1 R 1\n"),
-        (1, " X C 1 R 1\n Y R 1 R 1\n"),
-        (1, " X C 1\n Y R 1\n X R 1\n"),
-        (1, " X C 1 R 1\n Y Q 1\n"),
-        (1, " X C 1 R 1\n Y R 1.5\n"),
-        (1, " X C 1 R 1\n Y R +1\n"),
-        (1, " X C 1 R 1\n Y R 1000000\n"),
-        (1, " X C 1 R 1\n Y R --1\n"),
-        (1, " X C 1 R 1\n Y R 1 C\n"),
-        (1, " M 'MARKER' 'INTORG'\n X C 1 R 1\n Y R 1\n"),
-        (2, " S R 2\n S R 2\n"),
-        (2, " S R 2 R 2\n"),
-        (2, " S C 2\n"),
-        (2, " S Q 2\n"),
-        (2, " S R 2\n T R 2\n"),
-        (3, " UP B X 1\n"),
-        (3, " UP B X 1\n UP B Y 1\n UP B Y 1\n"),
-        (3, " UP B X 1\n UP D Y 1\n"),
-        (3, " UP B X 1\n UP B Z 1\n"),
-        (3, " UP B X 1\n UP B Y -1\n"),
-        (3, " UP B X 1\n UP B Y 1000\n"),
-        (3, " UP B X 1000\n UP B Y 999\n"),
-        (3, " UP B X 1\n LO B Y 1\n"),
-        (3, " UP B X 1\n UP B Y\n"),
-    ] {
-        let mut sections = right;
-        if let Some(place) = sections.get_mut(section) {
-            *place = text;
-        }
-        let refused = read_core(alloc, core_text(alloc, &sections)?.as_bytes());
-        assert!(rt; matches!(refused, Err(Refusal::Unbuilt)), "{text}");
-    }
-    Ok(())
-}
-
-#[test]
-fn cut_files_are_refused(rt: HostRuntime) -> Result<(), Fail> {
-    let alloc = rt.alloc();
-    for k in 0..3 {
-        let whole = SMALL[k];
-        for n in 0..whole.len() {
-            let mut files = SMALL;
-            files[k] = whole.get(..n).unwrap_or(whole);
-            let run = run_of(alloc, &files);
-            // The last byte, a newline, may be missing.
-            assert_eq!(rt; run.is_ok(), n + 1 == whole.len(), "{k} {n}");
-            assert!(rt; !matches!(run, Err(Refusal::Memory)), "{k} {n}");
-        }
+    match run_of(alloc, &WIDE) {
+        Ok(run) => assert_eq!(rt; wait_and_see(alloc, &run), Ok(-103999896)),
+        Err(_) => assert!(rt; false),
     }
     Ok(())
 }
@@ -323,53 +212,13 @@ fn expect_refusal(rt: &impl Abort, run: Result<Run, Refusal>, text: &str) {
 }
 
 #[test]
-fn other_times_are_refused(rt: HostRuntime) -> Result<(), Fail> {
+fn early_data_are_refused(rt: HostRuntime) -> Result<(), Fail> {
     let alloc = rt.alloc();
-    for text in [
-        "PERIODS\n X COST T1\nENDATA\n",
-        "PERIODS\n X COST T1\n Y NEED T1\nENDATA\n",
-        "PERIODS\n X NEED T1\n Y NEED T2\nENDATA\n",
-        "PERIODS\n Y COST T1\n X NEED T2\nENDATA\n",
-        "PERIODS\n X COST T1\n Y Q T2\nENDATA\n",
-        "PERIODS\n X COST T1\n Z NEED T2\nENDATA\n",
-        "PERIODS\n X COST T1\n Y NEED T2 T3\nENDATA\n",
-        "PERIODS\n X COST T1\n Y NEED T2\n Y NEED T3\nENDATA\n",
-        "PERIODS EXPLICIT\n X COST T1\n Y NEED T2\nENDATA\n",
-    ] {
-        let run = run_of(alloc, &[SMALL[0], text, SMALL[2]]);
-        expect_refusal(&rt, run, text);
-    }
     // Column B has an entry in the first period's row.
-    let early = "PERIODS\n A COST FIRST\n B R2 LAST\nENDATA\n";
-    expect_refusal(&rt, run_of(alloc, &[WIDE[0], early, WIDE[2]]), early);
-    Ok(())
-}
-
-#[test]
-fn other_stochs_are_refused(rt: HostRuntime) -> Result<(), Fail> {
-    let alloc = rt.alloc();
-    for text in [
-        "STOCH\nSCENARIOS DISCRETE\nENDATA\n",
-        "STOCH\nSCENARIOS\n SC A ROOT 1 T2\nENDATA\n",
-        "STOCH\nINDEP DISCRETE\n SC A ROOT 1 T2\nENDATA\n",
-        "STOCH\nSCENARIOS DISCRETE\n RHS NEED 2\n SC A ROOT 1 T2\nENDATA\n",
-        "STOCH\nSCENARIOS DISCRETE\n SC A ROOT 1 T2\n SC A ROOT 1 T2\nENDATA\n",
-        "STOCH\nSCENARIOS DISCRETE\n SC ROOT ROOT 1 T2\nENDATA\n",
-        "STOCH\nSCENARIOS DISCRETE\n SC A ROOT 1 T2\n SC B A 1 T2\nENDATA\n",
-        "STOCH\nSCENARIOS DISCRETE\n SC A ROOT 1 T1\nENDATA\n",
-        "STOCH\nSCENARIOS DISCRETE\n SC A ROOT 0.0 T2\nENDATA\n",
-        "STOCH\nSCENARIOS DISCRETE\n SC A ROOT 0.25 T2\nENDATA\n",
-        "STOCH\nSCENARIOS DISCRETE\n SC A ROOT 2 T2\nENDATA\n",
-        "STOCH\nSCENARIOS DISCRETE\n SC A ROOT 1 T2\n RHS NEED 2.5\nENDATA\n",
-        "STOCH\nSCENARIOS DISCRETE\n SC A ROOT 1 T2\n RHS NEED 2\n RHS NEED 2\nENDATA\n",
-        "STOCH\nSCENARIOS DISCRETE\n SC A ROOT 1 T2\n RHS COST 2\nENDATA\n",
-        "STOCH\nSCENARIOS DISCRETE\n SC A ROOT 1 T2\n X NEED 2\nENDATA\n",
-    ] {
-        let run = run_of(alloc, &[SMALL[0], SMALL[1], text]);
-        expect_refusal(&rt, run, text);
-    }
+    let time = "PERIODS\n A COST FIRST\n B R2 LAST\nENDATA\n";
+    expect_refusal(&rt, run_of(alloc, &[WIDE[0], time, WIDE[2]]), time);
     // Row R1 is of the first period.
-    let early = "STOCH\nSCENARIOS DISCRETE\n SC A ROOT 1 LAST\n RHS R1 2\nENDATA\n";
-    expect_refusal(&rt, run_of(alloc, &[WIDE[0], WIDE[1], early]), early);
+    let stoch = "STOCH\nSCENARIOS DISCRETE\n SC A ROOT 1 LAST\n RHS R1 2\nENDATA\n";
+    expect_refusal(&rt, run_of(alloc, &[WIDE[0], WIDE[1], stoch]), stoch);
     Ok(())
 }

@@ -1,4 +1,3 @@
-use crate::status::{InputFault, InputFile, InputKind, Status};
 use crate::texts::{Heading, bound_lines, heading_lines};
 use crate::words::read_words;
 use crate::writer::write_lines;
@@ -47,53 +46,6 @@ fn words_are_read(rt: HostRuntime) -> Result<(), Fail> {
     );
     assert_eq!(rt; command.map(|c| c.options.rho), Some(1));
     assert!(rt; read_words(&[]).is_none());
-    Ok(())
-}
-
-#[test]
-fn statuses_are_told(rt: HostRuntime) -> Result<(), Fail> {
-    let late = InputFault {
-        file: InputFile::Stoch,
-        line: 12,
-        kind: InputKind::Unbuilt,
-    };
-    let long = InputFault {
-        file: InputFile::Core,
-        line: 0,
-        kind: InputKind::TooLong,
-    };
-    let time = InputFault {
-        file: InputFile::Time,
-        line: 0,
-        kind: InputKind::Unbuilt,
-    };
-    for (status, code, line) in [
-        (Status::Done, 0, ""),
-        (Status::Words, 2, "sppy: words\n"),
-        (
-            Status::Input(late),
-            3,
-            "sppy: input stoch line 12 Unbuilt\n",
-        ),
-        (Status::Input(long), 3, "sppy: input core line 0 TooLong\n"),
-        (Status::Input(time), 3, "sppy: input time line 0 Unbuilt\n"),
-        (
-            Status::Infeasible { scenario: 0 },
-            4,
-            "sppy: infeasible 1\n",
-        ),
-        (
-            Status::Infeasible { scenario: u32::MAX },
-            4,
-            "sppy: infeasible 4294967296\n",
-        ),
-        (Status::ReadFault { faults: 3 }, 7, "sppy: read fault 3\n"),
-        (Status::WriteFault { faults: 1 }, 8, "sppy: write fault 1\n"),
-        (Status::Memory, 9, "sppy: memory\n"),
-    ] {
-        assert_eq!(rt; status.code(), code, "{line}");
-        assert_eq!(rt; status.line(rt.alloc())?.as_slice(), line.as_bytes());
-    }
     Ok(())
 }
 

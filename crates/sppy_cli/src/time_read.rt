@@ -7,7 +7,7 @@ ghost use Rattle.sppy_cli.specs.CoreFile.{IsCore};
 ghost use Rattle.sppy_cli.specs.Form.{no_line, passing};
 ghost use Rattle.sppy_cli.specs.Refusals.{ReadAnswers};
 ghost use Rattle.sppy_cli.specs.Sections.{section, section_name};
-ghost use Rattle.sppy_cli.specs.TimeFile.{all_rows, are_small_periods, begins_after, begins_first, column_at, is_explicit, is_in_time, number_of, period_fits, periods_in, periods_of, row_at, second_line, time_fits, time_header_fits};
+ghost use Rattle.sppy_cli.specs.TimeFile.{all_rows, are_small_periods, begins_after, begins_first, column_at, is_explicit, is_in_time, place_of_name, period_fits, periods_in, periods_of, row_at, second_line, time_fits, time_header_fits};
 
 use crate::core_file::Core;
 use crate::core_read::copy;
@@ -21,8 +21,8 @@ use wide_num::{List, Text};
 
 /// The number of a name among names, from 0; as many as there are where it
 /// isn't one of them.
-pub fn number_of(names: &List<Text>, name: &[u8]) -> usize
-    ensures value { result ≡ number_of names.now name.now }
+pub fn place_of_name(names: &List<Text>, name: &[u8]) -> usize
+    ensures value { result ≡ place_of_name names.now name.now }
     ensures within { result ≤ length names.now }
 {
     let known = names.as_slice();
@@ -39,7 +39,7 @@ fn column_at(core: &Core, bytes: &[u8], line: &Line) -> usize
     ensures value { result ≡ column_at core.now bytes.now line.now }
     ensures within { result ≤ length core.now.columns }
 {
-    number_of(&core.columns, line.field(bytes, 0))
+    place_of_name(&core.columns, line.field(bytes, 0))
 }
 
 // The row at which it begins, with the objective as row 0.
@@ -50,7 +50,7 @@ fn row_at(core: &Core, bytes: &[u8], line: &Line) -> u128
     if same(core.objective.as_slice(), line.field(bytes, 1)) {
         return 0;
     }
-    number_of(&core.rows, line.field(bytes, 1)) as u128 + 1
+    place_of_name(&core.rows, line.field(bytes, 1)) as u128 + 1
 }
 
 fn begins_after(core: &Core, bytes: &[u8], line: &Line, first: &Line) -> bool

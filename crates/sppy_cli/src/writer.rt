@@ -1,6 +1,6 @@
 ghost use Rattle.std.specs.Prelude.{◌≡◌, OnErr, OnOk};
 ghost use Rattle.std.specs.List.{concat};
-ghost use Rattle.io_edge.specs.Faults.{CountsEdge};
+ghost use Rattle.io_edge.specs.Faults.{Counts, edge_fault};
 ghost use Rattle.io_edge.specs.Sinks.{AppendsFront, appended};
 ghost use Rattle.sppy_cli.specs.Texts.{AreFull};
 
@@ -12,7 +12,7 @@ pub fn write_lines<K: Sink>(out: &mut K, lines: &List<Text>) -> Result<(), EdgeF
     requires { AreFull lines.now }
     ensures ok { OnOk result (K.written out.new ≡ appended (K.written out.old) (concat lines.now)) }
     ensures err { OnErr result (AppendsFront (K.written out.old) (K.written out.new) (concat lines.now)) }
-    ensures count { CountsEdge (K.count out.old) (K.count out.new) result }
+    ensures count { Counts (K.count out.old) (K.count out.new) (edge_fault result) }
 {
     for line in lines.as_slice() {
         out.put(line.as_slice())?;

@@ -1,9 +1,11 @@
+-- lowest terms: signs and magnitudes divided by their greatest common divisor
 use Rattle.std.proofs.Common.{◌≡◌, refl, sym, ap, ◌∙◌, subst, arith, ℕ, zero, suc, ◌*◌, ◌/◌, ◌<◌, Bool, true, false, ℤ, pos, negsuc, ◌*ℤ◌, ◌<ℤ◌, ◌≤ℤ◌, unsigned_abs, int_lt}
 use Rattle.std.proofs.lemmas.Int.{ints}
 use Rattle.std.proofs.Math.Nat.{pos_of_dvd_of_pos, dvd_of_mul-dvd-mul_left, mul-dvd-mul_left, one-dvd, div-mul_cancel}
 use Rattle.std.proofs.lemmas.Nat.Gcd.{dvd_antisymm}
 use Rattle.std.specs.Int.{IsGcd, ◌∣◌}
-use Rattle.wide_num.specs.LowestTerms.{IsCoprime, IsLowest, with_sign}
+use Rattle.base_words.specs.Signs.{signed}
+use Rattle.wide_num.specs.LowestTerms.{IsCoprime, IsLowest}
 use Rattle.wide_num.specs.declared.fraction.Fraction.{Fraction}
 
 -- the quotient by a divisor, times it
@@ -24,14 +26,14 @@ left_coprime a b g m n d p h e f x y =
     dvd_antisymm (dvd_of_mul-dvd-mul_left d p (subst (λ k. g * d ∣ k) one both)) (one-dvd d)
 
 -- a number is its sign and magnitude, whose magnitude was divided by k
-pub signed_times : (a : ℤ) (m k : ℕ) (s : Bool) → unsigned_abs a ≡ m * k → (s ≡ true → a <ℤ pos 0) → (s ≡ false → pos 0 ≤ℤ a) → a ≡ with_sign s m *ℤ pos k
+pub signed_times : (a : ℤ) (m k : ℕ) (s : Bool) → unsigned_abs a ≡ m * k → (s ≡ true → a <ℤ pos 0) → (s ≡ false → pos 0 ≤ℤ a) → a ≡ signed s m *ℤ pos k
 signed_times (pos a) m k true e t f = absurd (omega (arith, ints, t refl))
 signed_times (negsuc a) m k true e t f = grind (arith, ints)
 signed_times (pos a) m k false e t f = ap pos e
 signed_times (negsuc a) m k false e t f = absurd (omega (arith, ints, f refl))
 
 -- the magnitude of a number made of a sign and a magnitude
-magnitude_of : (s : Bool) (m : ℕ) → unsigned_abs (with_sign s m) ≡ m
+magnitude_of : (s : Bool) (m : ℕ) → unsigned_abs (signed s m) ≡ m
 magnitude_of true zero = refl
 magnitude_of true (suc m) = refl
 magnitude_of false m = refl
@@ -52,34 +54,34 @@ sign_clear a e = grind (arith, ints)
 divided_by_gcd :
     (top bottom : ℤ) (g m n : ℕ) → pos 0 <ℤ bottom → 0 < g → IsGcd (unsigned_abs top) (unsigned_abs bottom) g →
     unsigned_abs top ≡ m * g → unsigned_abs bottom ≡ n * g →
-    IsLowest top bottom (record { top = with_sign (int_lt top (pos 0)) m; bottom = pos n })
+    IsLowest top bottom (record { top = signed (int_lt top (pos 0)) m; bottom = pos n })
 divided_by_gcd top bottom g m n above positive h over under =
     let s = int_lt top (pos 0) in
     let top_factor = signed_times top m g s over (sign_set top) (sign_clear top) in
     let bottom_factor = signed_times bottom n g false under (λ e. absurd (grind (arith, e))) (λ e. omega (arith, ints)) in
     let bottom_above : 0 < n = factor_above (unsigned_abs bottom) n g under (grind (arith, ints)) in
-    let coprime : IsCoprime (with_sign s m) (pos n) = λ d x y. left_coprime (unsigned_abs top) (unsigned_abs bottom) g m n d positive h over under (subst (λ k. d ∣ k) (magnitude_of s m) x) y in
+    let coprime : IsCoprime (signed s m) (pos n) = λ d x y. left_coprime (unsigned_abs top) (unsigned_abs bottom) g m n d positive h over under (subst (λ k. d ∣ k) (magnitude_of s m) x) y in
     (omega (arith, ints), (g, positive, top_factor, bottom_factor), coprime)
 
 -- the same, of numbers that are known to be equal to these
 pub lowest_from_gcd :
     (top bottom x y : ℤ) (over under g m n : ℕ) → pos 0 <ℤ bottom → 0 < g → IsGcd over under g →
     over ≡ unsigned_abs top → under ≡ unsigned_abs bottom → over ≡ m * g → under ≡ n * g →
-    x ≡ with_sign (int_lt top (pos 0)) m → y ≡ pos n → IsLowest top bottom (record { top = x; bottom = y })
+    x ≡ signed (int_lt top (pos 0)) m → y ≡ pos n → IsLowest top bottom (record { top = x; bottom = y })
 lowest_from_gcd top bottom x y over under g m n above positive h o u over_factor under_factor ex ey =
     let h' : IsGcd (unsigned_abs top) (unsigned_abs bottom) g = subst (λ k. IsGcd k (unsigned_abs bottom) g) o (subst (λ k. IsGcd over k g) u h) in
     rw (ex, ey) (divided_by_gcd top bottom g m n above positive h' (sym o ∙ over_factor) (sym u ∙ under_factor))
 
 -- a number made of a sign and a magnitude, times a natural
-times_natural : (s : Bool) (m k : ℕ) → (with_sign s m *ℤ pos k) ≡ with_sign s (m * k)
+times_natural : (s : Bool) (m k : ℕ) → (signed s m *ℤ pos k) ≡ signed s (m * k)
 times_natural true zero k = grind (arith, ints)
 times_natural true (suc m) k = grind (arith, ints)
 times_natural false m k = refl
 
-natural_across : (s : Bool) (m k n : ℕ) → ((with_sign s m *ℤ pos k) *ℤ pos n) ≡ (with_sign s m *ℤ (pos n *ℤ pos k))
+natural_across : (s : Bool) (m k n : ℕ) → ((signed s m *ℤ pos k) *ℤ pos n) ≡ (signed s m *ℤ (pos n *ℤ pos k))
 natural_across s m k n =
     let swap : m * k * n ≡ m * (n * k) = grind arith in
-    ap (λ z. z *ℤ pos n) (times_natural s m k) ∙ times_natural s (m * k) n ∙ ap (with_sign s) swap ∙ sym (times_natural s m (n * k))
+    ap (λ z. z *ℤ pos n) (times_natural s m k) ∙ times_natural s (m * k) n ∙ ap (signed s) swap ∙ sym (times_natural s m (n * k))
 
 across : (t b : ℤ) (k : ℕ) → pos 0 <ℤ b → ((t *ℤ pos k) *ℤ b) ≡ (t *ℤ (b *ℤ pos k))
 across (pos m) (pos n) k h = natural_across false m k n

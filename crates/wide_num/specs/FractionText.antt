@@ -1,3 +1,4 @@
+-- how a fraction is written
 use Rattle.std.specs.Prelude.{ℕ, List, ◌∷◌, ◌++◌, pos, if◌then◌else◌}
 use Rattle.std.specs.Ordering.{int_eq}
 use Rattle.std.specs.Fmt.{signed_decimal}

@@ -1,4 +1,5 @@
-use Rattle.std.specs.Prelude.{◌≡◌, ℕ, ℤ, Bool, true, false, pos, neg_ℤ, ◌<◌, ◌<ℤ◌, ◌*ℤ◌, unsigned_abs}
+-- when a fraction is in lowest terms
+use Rattle.std.specs.Prelude.{◌≡◌, ℕ, ℤ, pos, ◌<◌, ◌<ℤ◌, ◌*ℤ◌, unsigned_abs}
 use Rattle.std.specs.Int.{◌∣◌}
 use Rattle.wide_num.specs.declared.fraction.Fraction.{Fraction}
 
@@ -13,8 +14,3 @@ IsMultiple top bottom f = (k : ℕ) × (0 < k) × (top ≡ f.top *ℤ pos k) × 
 -- the fraction is top / bottom in lowest terms, with its bottom above 0
 abbrev pub IsLowest : ℤ → ℤ → Fraction → Type 0
 IsLowest top bottom f = (pos 0 <ℤ f.bottom) × IsMultiple top bottom f × IsCoprime f.top f.bottom
-
--- the number with this sign and magnitude
-abbrev pub with_sign : Bool → ℕ → ℤ
-with_sign true magnitude = neg_ℤ (pos magnitude)
-with_sign false magnitude = pos magnitude

@@ -1,3 +1,4 @@
+-- quotients rounded down and up
 use Rattle.std.specs.Prelude.{ℤ, ◌+ℤ◌, ◌*ℤ◌, ◌<ℤ◌, ◌≤ℤ◌}
 
 -- q is a / b rounded down, where b is above 0: q * b is at most a, and a is less than one b above it

@@ -1,4 +1,4 @@
-ghost use Rattle.std.specs.Prelude.{◌≡◌, [], ◌∷◌, ◌++◌, ◌<◌, length, slice_get, slice_set, MatchOption, OnErr, OnOk};
+ghost use Rattle.std.specs.Prelude.{◌≡◌, [], ◌∷◌, ◌++◌, ◌<◌, length, slice_get, slice_set, IfOk, MatchOption, OnErr, OnOk};
 
 use std::alloc::{AllocError, Global};
 use std::marker::Model;
@@ -78,6 +78,20 @@ impl<T> List<T> {
         ensures after { self.new ≡ slice_set self.old index item }
     {
         mem::replace(&mut self.items[index], item)
+    }
+}
+
+impl<T: Copy> List<T> {
+    /// A list of a slice's items. It takes no memory where there are none.
+    pub fn from_slice(alloc: Global, items: &[T]) -> Result<List<T>, AllocError>
+        ensures copy { IfOk result (λ list. list ≡ items.now) }
+        ensures refused { OnErr result (0 < length items.now) }
+    {
+        let mut copy = Vec::new(alloc);
+        let Ok(()) = copy.extend_from_slice(items) else {
+            return Err(AllocError);
+        };
+        Ok(List { items: copy })
     }
 }
 

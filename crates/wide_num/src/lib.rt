@@ -8,6 +8,7 @@ mod items;
 mod lowest;
 mod quotient;
 mod reserved;
+mod signs;
 
 pub use checked::{Wide, add, mul};
 pub use fraction::Fraction;
@@ -15,6 +16,7 @@ pub use items::{List, Text};
 pub use lowest::reduce;
 pub use quotient::{ceil_div, floor_div};
 pub use reserved::Room;
+pub use signs::signed;
 
 #[cfg(test)]
 mod tests;

@@ -1,8 +1,9 @@
 ghost use Rattle.std.specs.Prelude.{◌≡◌, ℕ, pos, neg_ℤ, ◌*◌, ◌^◌, ◌<◌, ◌<ℤ◌, ◌*ℤ◌, unsigned_abs};
 ghost use Rattle.std.specs.Int.{IsGcd, ◌∣◌};
-ghost use Rattle.wide_num.specs.LowestTerms.{IsLowest, with_sign};
+ghost use Rattle.wide_num.specs.LowestTerms.{IsLowest};
 
 use crate::fraction::Fraction;
+use crate::signs::signed;
 
 /// The quotient `top / bottom` in lowest terms, for a bottom above 0. The top
 /// is above `i128::MIN`. 0 is given as 0/1.
@@ -53,16 +54,4 @@ fn exact_quotient(number: u128, divisor: u128) -> u128
     ensures { number ≡ result * divisor }
 {
     number / divisor
-}
-
-// The number with this magnitude and sign.
-fn signed(negative: bool, magnitude: u128) -> i128
-    requires { magnitude < 2 ^ 127 }
-    ensures { result ≡ with_sign negative magnitude }
-{
-    if negative {
-        -(magnitude as i128)
-    } else {
-        magnitude as i128
-    }
 }

@@ -58,6 +58,16 @@ fn quotients(rt: HostRuntime) {
 }
 
 #[test]
+fn signs(rt: HostRuntime) {
+    let greatest = 170141183460469231731687303715884105727;
+    assert_eq!(rt; signed(true, 5), -5);
+    assert_eq!(rt; signed(false, 5), 5);
+    assert_eq!(rt; signed(true, 0), 0);
+    assert_eq!(rt; signed(true, greatest), -i128::MAX);
+    assert_eq!(rt; signed(false, greatest), i128::MAX);
+}
+
+#[test]
 fn fractions(rt: HostRuntime) -> Result<(), Fail> {
     let cases = [
         (80, 20, "4"),
@@ -98,6 +108,8 @@ fn lists_and_rooms(rt: HostRuntime) -> Result<(), Fail> {
     assert_eq!(rt; list.len(), 1);
     assert_eq!(rt; list.pop(), Some(6));
     assert_eq!(rt; list.pop(), None);
+    let copy = List::from_slice(rt.alloc(), &[3u8, 1, 2])?;
+    assert_eq!(rt; copy.as_slice(), [3, 1, 2].as_slice());
 
     let mut room = Room::new(rt.alloc(), 2)?;
     room.push(7u32);

@@ -1,6 +1,6 @@
 use Rattle.std.proofs.Common.{ℕ, ◌<◌, ◌≤ℤ◌}
 use Rattle.boxed_problem.specs.Sides.{side_at}
-use Rattle.boxed_problem.specs.Sums.{number_at}
+use Rattle.base_words.specs.Sums.{number_at}
 use Rattle.boxed_problem.proofs.feasibility.lies_in.Given as goal
 
 abbrev pub invariant-loop-j : goal.invariant-loop-j

@@ -4,7 +4,8 @@ use Rattle.std.specs.Int.{w128}
 use Rattle.boxed_problem.specs.Leasts.{IsLeastAt}
 use Rattle.boxed_problem.specs.Sides.{reach}
 use Rattle.boxed_problem.proofs.LeastLaws.{least_at}
-use Rattle.boxed_problem.proofs.Magnitudes.{abs_between, curve_size}
+use Rattle.base_words.proofs.Magnitudes.{abs_between}
+use Rattle.boxed_problem.proofs.Magnitudes.{curve_size}
 use Rattle.boxed_problem.proofs.least_values.column_least.Goals as goal
 
 pub column_value-requires : goal.column_value-requires

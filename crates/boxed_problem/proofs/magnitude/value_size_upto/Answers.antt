@@ -3,8 +3,8 @@ use Rattle.std.proofs.lemmas.Int.{to_z-of_z}
 use Rattle.std.specs.Int.{w128}
 use Rattle.boxed_problem.specs.Facts.{column_size}
 use Rattle.boxed_problem.specs.Sides.{reach, side_at}
-use Rattle.boxed_problem.specs.Sums.{number_at, size_below}
-use Rattle.boxed_problem.proofs.Magnitudes.{size_below-le}
+use Rattle.base_words.specs.Sums.{number_at, size_below}
+use Rattle.base_words.proofs.SumBounds.{size_below-le}
 use Rattle.boxed_problem.proofs.magnitude.value_size_upto.Goals as goal
 
 pub returns-in_default : goal.returns-in_default

@@ -1,6 +1,6 @@
 use Rattle.std.proofs.Common.{◌≡◌, ◌+◌, ◌≤◌, unsigned_abs}
 use Rattle.boxed_problem.specs.Facts.{column_size}
-use Rattle.boxed_problem.specs.Sums.{size_below}
+use Rattle.base_words.specs.Sums.{size_below}
 use Rattle.boxed_problem.proofs.magnitude.value_size_upto.Given as goal
 
 abbrev pub invariant-loop-j : goal.invariant-loop-j

@@ -2,7 +2,8 @@ use Rattle.std.proofs.Common.{arith, ap, ◌∙◌, ◌≡◌, ◌+◌, ◌*◌,
 use Rattle.std.proofs.lemmas.Int.{to_z-of_z}
 use Rattle.std.specs.Int.{w128}
 use Rattle.boxed_problem.specs.Objective.{curve}
-use Rattle.boxed_problem.proofs.Magnitudes.{product_fits, square_fits, square64_fits, curve_fits}
+use Rattle.base_words.proofs.Magnitudes.{product_fits, square_fits, square64_fits}
+use Rattle.boxed_problem.proofs.Magnitudes.{curve_fits}
 use Rattle.boxed_problem.proofs.objective.column_value.Goals as goal
 
 -- the numbers that the code forms, from those that it is given

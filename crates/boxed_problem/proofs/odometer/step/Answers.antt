@@ -3,11 +3,11 @@ use Rattle.std.proofs.lemmas.Int.{to_z-of_z}
 use Rattle.std.proofs.Math.ListN.{length-set}
 use Rattle.boxed_problem.specs.Odometer.{WrappedFrom, next_point}
 use Rattle.boxed_problem.specs.Sides.{side_at}
-use Rattle.boxed_problem.specs.Sums.{number_at}
+use Rattle.base_words.specs.Sums.{number_at}
 use Rattle.boxed_problem.specs.declared.parts.Side.{Side}
 use Rattle.boxed_problem.proofs.Listing.{on_in}
-use Rattle.boxed_problem.proofs.Magnitudes.{next64_fits}
-use Rattle.boxed_problem.proofs.Comparisons.{below_from_test, above_from_test}
+use Rattle.base_words.proofs.Magnitudes.{next64_fits}
+use Rattle.base_words.proofs.Comparisons.{below_from_test, above_from_test}
 use Rattle.boxed_problem.proofs.Stepping.{wrapped_none, wrapped_more, wrapped_found}
 use Rattle.boxed_problem.proofs.odometer.step.Goals as goal
 

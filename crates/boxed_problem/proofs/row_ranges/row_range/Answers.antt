@@ -3,7 +3,7 @@ use Rattle.std.proofs.lemmas.Int.{to_z-of_z}
 use Rattle.std.specs.Int.{w128}
 use Rattle.boxed_problem.specs.Facts.{entry_size, no_entry}
 use Rattle.boxed_problem.specs.Ranges.{high_part, low_part}
-use Rattle.boxed_problem.proofs.Magnitudes.{fold_fits, fold_next}
+use Rattle.base_words.proofs.SumBounds.{fold_fits, fold_next}
 use Rattle.boxed_problem.proofs.RangeLaws.{high_part-size, low_part-size}
 use Rattle.boxed_problem.proofs.row_ranges.row_range.Goals as goal
 

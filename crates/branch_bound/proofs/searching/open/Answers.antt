@@ -1,39 +1,52 @@
-use Rattle.std.proofs.Common.{sym, ◌∙◌, ◌≡◌, Some, None, true, false}
+use Rattle.std.proofs.Common.{sym, subst}
 use Rattle.boxed_problem.specs.Data.{problem_of}
-use Rattle.boxed_problem.specs.Halves.{halves}
-use Rattle.boxed_problem.specs.Optimum.{priced}
-use Rattle.boxed_problem.specs.PlainSearch.{is_left}
-use Rattle.boxed_problem.specs.Sides.{Within, corner}
-use Rattle.branch_bound.specs.HalvesAt.{halves_at}
-use Rattle.branch_bound.proofs.Stack.{all_push, halves_within, open_halves, open_left, open_single}
+use Rattle.branch_bound.specs.Frames.{IsHalved, IsStep, box_of}
+use Rattle.branch_bound.proofs.Opening.{IsMarked, IsNext, halves_search, halves_stack, search_ended, stack_below}
 use Rattle.branch_bound.proofs.searching.open.Goals as goal
 
-pub returns-then-is_left-clause-search : goal.returns-then-is_left-clause-search
-returns-then-is_left-clause-search c = λ n.
-    let b = c.args.problem.now in
-    let left : is_left (problem_of b) c.args.sides c.args.best.now ≡ true = sym c.is_left.ensures ∙ c.if-is_left.true in
-    open_left (problem_of b) c.args.sides c.args.best.now n c.args.stack.now left
+pub returns-in_default-clause-stack : goal.returns-in_default-clause-stack
+returns-in_default-clause-stack c =
+    let b = problem_of c.args.problem.now in
+    let old = c.args.trail.now in
+    let new = c.step.new.trail in
+    let next : IsNext b c.args.best.now old c.args.frame c.args.frames.now = record { is = c.requires.frame; chain = c.requires.chain; all = c.requires.frames } in
+    stack_below b c.args.best.now c.step.new.best old new c.args.frame c.args.frames.now next c.in_ok-place.ensures.marks c.in_ok-place.ensures.falls
 
 pub returns-in_default-clause-search : goal.returns-in_default-clause-search
 returns-in_default-clause-search c = λ n.
-    let b = c.args.problem.now in
-    let stays : is_left (problem_of b) c.args.sides c.args.best.now ≡ false = sym c.is_left.ensures ∙ c.if-is_left.false in
-    let none : halves c.args.sides ≡ None = rw c.as_slice.ensures at c.in_default.ensures in
-    let point : c.in_ok-point.point ≡ priced (problem_of b) (corner c.args.sides) = c.in_ok-point.ensures in
-    rw point (open_single (problem_of b) c.args.sides c.args.best.now n c.args.stack.now stays none)
+    let b = problem_of c.args.problem.now in
+    let old = c.args.trail.now in
+    let new = c.step.new.trail in
+    let next : IsNext b c.args.best.now old c.args.frame c.args.frames.now = record { is = c.requires.frame; chain = c.requires.chain; all = c.requires.frames } in
+    let step = subst (λ o. IsStep b c.args.best.now c.step.new.best (box_of b.columns old c.args.frame) new.sides o) c.in_default.is c.in_ok-place.ensures.step in
+    search_ended b c.args.best.now c.step.new.best old new c.args.frame c.args.frames.now n next c.in_ok-place.ensures.marks (step n)
 
 pub returns-clause-stack : goal.returns-clause-stack
 returns-clause-stack c =
-    let b = c.args.problem.now in
-    let some : halves c.args.sides ≡ Some (halves_at c.args.sides c.in-Some.column) = rw c.as_slice.ensures at c.in-Some.ensures.1 in
-    let within = halves_within c.args.sides b.columns (halves_at c.args.sides c.in-Some.column) c.requires.sides some in
-    rw (c.in_ok-push-2.ensures.ok, c.in_ok-push.ensures.ok, c.in_ok-halves.ensures.low, c.in_ok-halves.ensures.high)
-    (all_push (λ s. Within s b.columns) _ _ (all_push (λ s. Within s b.columns) _ _ c.requires.stack within.1) within.0)
+    let b = problem_of c.args.problem.now in
+    let old = c.args.trail.now in
+    let at = c.step.new.trail in
+    let new = c.mark.new.self in
+    let later = c.step.new.best in
+    let place = c.in-Some.place in
+    let box = box_of b.columns old c.args.frame in
+    let next : IsNext b c.args.best.now old c.args.frame c.args.frames.now = record { is = c.requires.frame; chain = c.requires.chain; all = c.requires.frames } in
+    let step = subst (λ o. IsStep b c.args.best.now later box at.sides o) c.in-Some.is c.in_ok-place.ensures.step in
+    let halved = subst (λ best. IsHalved b best box at.sides place) (sym step.0) step.1 in
+    let marked : IsMarked at new c.in_ok-mark.mark = record { number = c.in_ok-mark.ensures.number; count = c.in_ok-mark.ensures.count; back = c.in_ok-mark.ensures.remembers; sides = c.in_ok-mark.ensures.sides; earlier = c.in_ok-mark.ensures.earlier } in
+    rw (c.in_ok-push_two.ensures, c.halve-halves.ensures.low, c.halve-halves.ensures.high)
+    (halves_stack b c.args.best.now later old at new c.args.frame c.args.frames.now box place c.in_ok-mark.mark next c.in_ok-place.ensures.marks c.in_ok-place.ensures.falls halved marked).0
 
 pub returns-clause-search : goal.returns-clause-search
 returns-clause-search c = λ n.
-    let b = c.args.problem.now in
-    let stays : is_left (problem_of b) c.args.sides c.args.best.now ≡ false = sym c.is_left.ensures ∙ c.if-is_left.false in
-    let some : halves c.args.sides ≡ Some (halves_at c.args.sides c.in-Some.column) = rw c.as_slice.ensures at c.in-Some.ensures.1 in
-    rw (c.in_ok-push-2.ensures.ok, c.in_ok-push.ensures.ok, c.in_ok-halves.ensures.low, c.in_ok-halves.ensures.high)
-    (open_halves (problem_of b) c.args.sides c.args.best.now n (halves_at c.args.sides c.in-Some.column) c.args.stack.now stays some)
+    let b = problem_of c.args.problem.now in
+    let old = c.args.trail.now in
+    let at = c.step.new.trail in
+    let new = c.mark.new.self in
+    let place = c.in-Some.place in
+    let box = box_of b.columns old c.args.frame in
+    let next : IsNext b c.args.best.now old c.args.frame c.args.frames.now = record { is = c.requires.frame; chain = c.requires.chain; all = c.requires.frames } in
+    let step = subst (λ o. IsStep b c.args.best.now c.step.new.best box at.sides o) c.in-Some.is c.in_ok-place.ensures.step in
+    let marked : IsMarked at new c.in_ok-mark.mark = record { number = c.in_ok-mark.ensures.number; count = c.in_ok-mark.ensures.count; back = c.in_ok-mark.ensures.remembers; sides = c.in_ok-mark.ensures.sides; earlier = c.in_ok-mark.ensures.earlier } in
+    rw (c.in_ok-push_two.ensures, c.halve-halves.ensures.low, c.halve-halves.ensures.high, step.0)
+    (halves_search b c.args.best.now old at new c.args.frame c.args.frames.now place c.in_ok-mark.mark n next c.in_ok-place.ensures.marks step.1 marked)

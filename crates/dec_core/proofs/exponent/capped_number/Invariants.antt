@@ -1,8 +1,8 @@
 use Rattle.std.proofs.Common.{◌≡◌, min, take}
 use Rattle.std.specs.Str.Parse.{digits_value}
-use Rattle.dec_core.specs.Stripped.{most_exponent}
+use Rattle.dec_core.specs.Stripped.{max_exponent}
 use Rattle.dec_core.proofs.exponent.capped_number.Given as goal
 
 -- the number of the digits so far, up to the cap
 abbrev pub invariant-loop-byte : goal.invariant-loop-byte
-invariant-loop-byte l = l.number ≡ min (digits_value 10 (take l.byte-index l.digits)) most_exponent
+invariant-loop-byte l = l.number ≡ min (digits_value 10 (take l.byte-index l.digits)) max_exponent

@@ -5,4 +5,4 @@ use Rattle.dec_core.proofs.reading.read.Goals as goal
 
 pub returns-in-Some-clause-normal : goal.returns-in-Some-clause-normal
 returns-in-Some-clause-normal c =
-    normal_result (Some (spelling_of_parts c.in-Some.parts)) c.number_of.result c.number_of.ensures
+    normal_result (Some (spelling_of_parts c.in-Some.parts)) c.decimal_of_parts.result c.decimal_of_parts.ensures

@@ -1,13 +1,12 @@
-use Rattle.std.proofs.Common.{◌≡◌, ◌+◌, ◌-◌, ◌≤◌, length}
-use Rattle.line_core.specs.Lines.{after_lines, lines_of}
-use Rattle.line_core.proofs.Found.{rest_of}
+use Rattle.std.proofs.Common.{◌+◌, ◌-◌, ◌≤◌, length}
+use Rattle.line_core.proofs.Turns.{StandsAt}
 use Rattle.line_core.proofs.line_list.read_lines.Given as goal
 
 abbrev pub invariant-loop-count : goal.invariant-loop-count
 invariant-loop-count l = record {
   within : l.at ≤ length l.bytes;
   number : l.number ≤ l.at + 1;
-  found : after_lines l.found (rest_of l.bytes l.number l.at) ≡ lines_of l.bytes;
+  stands : StandsAt l.bytes l.found l.number l.at;
 }
 
 abbrev pub decreases-loop-count : goal.decreases-loop-count

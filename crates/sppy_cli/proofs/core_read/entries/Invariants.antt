@@ -1,5 +1,6 @@
 use Rattle.std.proofs.Common.{◌≡◌}
-use Rattle.sppy_cli.specs.CoreFile.{gathered, column_entries, text_at}
+use Rattle.base_words.specs.Gathered.{gathered}
+use Rattle.sppy_cli.specs.CoreFile.{column_entries, text_at}
 use Rattle.sppy_cli.proofs.core_read.entries.Given as goal
 
 abbrev pub invariant-loop-j : goal.invariant-loop-j

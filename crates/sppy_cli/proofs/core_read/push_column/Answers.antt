@@ -2,7 +2,7 @@ use Rattle.std.proofs.Common.{◌≡◌, ◌++◌, ◌∙◌, ap, []}
 use Rattle.std.proofs.lemmas.List.{get_or_read}
 use Rattle.sppy_cli.specs.CoreData.{entry_of}
 use Rattle.sppy_cli.specs.CoreFile.{entry_list, text_at}
-use Rattle.sppy_cli.proofs.Gather.{gathered_onto}
+use Rattle.base_words.proofs.Gathering.{gathered_onto}
 use Rattle.sppy_cli.proofs.core_read.push_column.Goals as goal
 
 pub loop-i-preserved : goal.loop-i-preserved

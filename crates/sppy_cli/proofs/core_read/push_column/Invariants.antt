@@ -1,6 +1,7 @@
 use Rattle.std.proofs.Common.{◌≡◌, ◌++◌}
 use Rattle.sppy_cli.specs.CoreData.{entry_of}
-use Rattle.sppy_cli.specs.CoreFile.{gathered, entry_list, text_at}
+use Rattle.base_words.specs.Gathered.{gathered}
+use Rattle.sppy_cli.specs.CoreFile.{entry_list, text_at}
 use Rattle.sppy_cli.proofs.core_read.push_column.Given as goal
 
 abbrev pub invariant-loop-i : goal.invariant-loop-i

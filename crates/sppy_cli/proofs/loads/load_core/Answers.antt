@@ -1,5 +1,5 @@
-use Rattle.sppy_cli.proofs.Gains.{gains_whole}
+use Rattle.sppy_cli.proofs.Turns.{refused_after}
 use Rattle.sppy_cli.proofs.loads.load_core.Goals as goal
 
 pub returns-clause-names : goal.returns-clause-names
-returns-clause-names g c = gains_whole (g.S.Shelf.names c.args.shelf.now) (g.S.Shelf.names c.load.new.shelf) c.args.name.now c.in_ok-bytes.ensures.names
+returns-clause-names g c = refused_after c.args.name.now (g.S.Shelf.names c.args.shelf.now) (g.S.Shelf.names c.load.new.shelf) c.refused.result c.in_ok-bytes.ensures.names

@@ -1,7 +1,7 @@
 use Rattle.std.proofs.Common.{◌≡◌, ◌∙◌, Some, Err, ap, sym, subst}
 use Rattle.sppy_cli.specs.Refusals.{ReadAnswers}
 use Rattle.sppy_cli.specs.TimeFile.{periods_of}
-use Rattle.sppy_cli.proofs.Gains.{gains_whole}
+use Rattle.sppy_cli.proofs.Turns.{refused_after}
 use Rattle.sppy_cli.proofs.Loading.{loads_read, loads_refused}
 use Rattle.sppy_cli.proofs.loads.load_time.Goals as goal
 
@@ -16,4 +16,4 @@ returns-clause-gives g c =
     loads_refused (λ loaded. loaded.items) (g.S.Shelf.files c.args.shelf.now) c.args.name.now c.in_ok-bytes.bytes (periods_of c.args.core.now) c.in-Err.refusal c.refused.result c.in_ok-bytes.ensures.gives refused c.refused.ensures
 
 pub returns-clause-names : goal.returns-clause-names
-returns-clause-names g c = gains_whole (g.S.Shelf.names c.args.shelf.now) (g.S.Shelf.names c.load.new.shelf) c.args.name.now c.in_ok-bytes.ensures.names
+returns-clause-names g c = refused_after c.args.name.now (g.S.Shelf.names c.args.shelf.now) (g.S.Shelf.names c.load.new.shelf) c.refused.result c.in_ok-bytes.ensures.names

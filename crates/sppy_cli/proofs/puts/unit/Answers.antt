@@ -1,6 +1,6 @@
 use Rattle.std.proofs.Common.{◌*ℤ◌, FitsSigned, to_z-of_z}
 use Rattle.std.specs.Int.{w128}
-use Rattle.sppy_cli.specs.Desk.{unit_of}
+use Rattle.sppy_cli.specs.RunText.{unit_of}
 use Rattle.sppy_cli.proofs.Totals.{unit_facts}
 use Rattle.sppy_cli.proofs.puts.unit.Goals as goal
 

@@ -1,7 +1,7 @@
 use Rattle.std.proofs.Common.{ℕ, ◌<◌}
 use Rattle.boxed_problem.specs.Facts.{limits_at}
 use Rattle.boxed_problem.specs.PriceFit.{HasSign}
-use Rattle.boxed_problem.specs.Sums.{number_at}
+use Rattle.base_words.specs.Sums.{number_at}
 use Rattle.boxed_problem.proofs.problem.Boxed.fits.Given as goal
 
 abbrev pub invariant-loop-i : goal.invariant-loop-i

@@ -4,7 +4,7 @@ use Rattle.std.proofs.lemmas.List.Elements.{All-set, recursion_from_All}
 use Rattle.boxed_problem.specs.Sides.{side_at}
 use Rattle.boxed_problem.specs.declared.parts.Side.{Side}
 use Rattle.boxed_problem.proofs.FixingLaws.{boxed_within, set_within}
-use Rattle.boxed_problem.proofs.Comparisons.{above_from_test}
+use Rattle.base_words.proofs.Comparisons.{above_from_test}
 use Rattle.boxed_problem.proofs.problem.Boxed.fix.Goals as goal
 
 pub invariant_of-self : goal.invariant_of-self

@@ -4,8 +4,8 @@ use Rattle.std.specs.Int.{w128}
 use Rattle.boxed_problem.specs.Data.{problem_of}
 use Rattle.boxed_problem.specs.Facts.{row_size}
 use Rattle.boxed_problem.specs.PriceFit.{price_part}
-use Rattle.boxed_problem.specs.Sums.{number_at, size_below}
-use Rattle.boxed_problem.proofs.Magnitudes.{size_below-le}
+use Rattle.base_words.specs.Sums.{number_at, size_below}
+use Rattle.base_words.proofs.SumBounds.{size_below-le}
 use Rattle.boxed_problem.proofs.problem.Boxed.is_small.Goals as goal
 
 pub returns-in_default-add_product-2 : goal.returns-in_default-add_product-2

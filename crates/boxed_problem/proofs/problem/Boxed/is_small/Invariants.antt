@@ -2,7 +2,7 @@ use Rattle.std.proofs.Common.{◌≡◌, ◌+◌, ◌*◌, ◌^◌, ◌≤◌, u
 use Rattle.boxed_problem.specs.Data.{problem_of}
 use Rattle.boxed_problem.specs.Facts.{value_size}
 use Rattle.boxed_problem.specs.PriceFit.{price_part}
-use Rattle.boxed_problem.specs.Sums.{size_below}
+use Rattle.base_words.specs.Sums.{size_below}
 use Rattle.boxed_problem.proofs.problem.Boxed.is_small.Given as goal
 
 abbrev pub invariant-loop-i : goal.invariant-loop-i

@@ -3,9 +3,9 @@ use Rattle.std.proofs.lemmas.Int.{to_z-of_z}
 use Rattle.std.specs.Int.{w128}
 use Rattle.boxed_problem.specs.Leasts.{least_part}
 use Rattle.boxed_problem.specs.Sides.{reach, side_at}
-use Rattle.boxed_problem.specs.Sums.{number_at}
+use Rattle.base_words.specs.Sums.{number_at}
 use Rattle.boxed_problem.proofs.LeastLaws.{column_size-le, column_size-within, least_fits_upto}
-use Rattle.boxed_problem.proofs.Magnitudes.{sum_below-next}
+use Rattle.base_words.proofs.SumBounds.{sum_below-next}
 use Rattle.boxed_problem.proofs.problem.Boxed.least_value.Goals as goal
 
 pub column_least-sum-requires-clause-fits : goal.column_least-sum-requires-clause-fits

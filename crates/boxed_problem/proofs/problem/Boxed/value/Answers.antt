@@ -2,8 +2,9 @@ use Rattle.std.proofs.Common.{arith, ◌≡◌, ◌+◌, ◌<◌, length, ◌+�
 use Rattle.std.proofs.lemmas.Int.{to_z-of_z}
 use Rattle.std.specs.Int.{w128}
 use Rattle.boxed_problem.specs.Objective.{value_part}
-use Rattle.boxed_problem.specs.Sums.{number_at}
-use Rattle.boxed_problem.proofs.Magnitudes.{column_fits, value_fits_upto, sum_below-next}
+use Rattle.base_words.specs.Sums.{number_at}
+use Rattle.base_words.proofs.SumBounds.{sum_below-next}
+use Rattle.boxed_problem.proofs.Magnitudes.{column_fits, value_fits_upto}
 use Rattle.boxed_problem.proofs.problem.Boxed.value.Goals as goal
 
 pub column_value-sum-requires : goal.column_value-sum-requires

@@ -1,6 +1,6 @@
 use Rattle.std.proofs.Common.{◌≡◌, ◌+ℤ◌}
 use Rattle.boxed_problem.specs.Objective.{value_part}
-use Rattle.boxed_problem.specs.Sums.{sum_below}
+use Rattle.base_words.specs.Sums.{sum_below}
 use Rattle.boxed_problem.proofs.problem.Boxed.value.Given as goal
 
 abbrev pub invariant-loop-j : goal.invariant-loop-j

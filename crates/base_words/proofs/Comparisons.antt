@@ -1,0 +1,43 @@
+-- what tests on numbers say, and tests joined by `&&`
+
+use Rattle.std.proofs.Common.{arith, refl, ◌≡◌, Bool, true, false, ◌&&◌, ℤ, ◌≤ℤ◌, ◌<ℤ◌, int_lt, int_le}
+use Rattle.std.proofs.lemmas.Int.{ints}
+
+pub below_from_test : (a b : ℤ) → int_lt a b ≡ true → a <ℤ b
+below_from_test a b h = grind (arith, ints)
+
+pub above_from_test : (a b : ℤ) → int_lt a b ≡ false → b ≤ℤ a
+above_from_test a b h = grind (arith, ints)
+
+pub test_from_below : (a b : ℤ) → a <ℤ b → int_lt a b ≡ true
+test_from_below a b h = grind (arith, ints)
+
+pub test_from_above : (a b : ℤ) → b ≤ℤ a → int_lt a b ≡ false
+test_from_above a b h = grind (arith, ints)
+
+pub most_from_test : (a b : ℤ) → int_le a b ≡ true → a ≤ℤ b
+most_from_test a b h = grind (arith, ints)
+
+pub test_from_most : (a b : ℤ) → a ≤ℤ b → int_le a b ≡ true
+test_from_most a b h = grind (arith, ints)
+
+-- both parts of a test
+pub both_left : (p q : Bool) → (p && q) ≡ true → p ≡ true
+both_left true q h = refl
+both_left false q h = h
+
+pub both_right : (p q : Bool) → (p && q) ≡ true → q ≡ true
+both_right true q h = h
+both_right false q h = absurd cc
+
+pub both : (p q : Bool) → p ≡ true → q ≡ true → (p && q) ≡ true
+both true q h k = k
+both false q h k = h
+
+pub left_fails : (p q : Bool) → p ≡ false → (p && q) ≡ false
+left_fails true q h = absurd cc
+left_fails false q h = refl
+
+pub right_fails : (p q : Bool) → q ≡ false → (p && q) ≡ false
+right_fails true q h = h
+right_fails false q h = refl

@@ -1,0 +1,5 @@
+use Rattle.boxed_problem.proofs.SearchLaws.{search_step}
+use Rattle.branch_bound.proofs.plain_law.plain_search_is_unbounded.Goals as goal
+
+pub returns : goal.returns
+returns c = search_step

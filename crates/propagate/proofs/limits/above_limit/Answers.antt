@@ -1,0 +1,63 @@
+use Rattle.std.proofs.Common.{◌≡◌, Some, ◌-ℤ◌, FitsSigned, rules}
+use Rattle.std.proofs.lemmas.Int.{to_z-of_z}
+use Rattle.std.specs.Int.{w128}
+use Rattle.boxed_problem.specs.Facts.{entry_at, limits_at}
+use Rattle.boxed_problem.specs.Sides.{side_at}
+use Rattle.propagate.specs.Tightening.{KeepsBelow}
+use Rattle.propagate.proofs.TightLaws.{cut_self, cut_is_below, lower_slack, lower_slack_fits}
+use Rattle.propagate.proofs.limits.above_limit.Goals as goal
+
+pub overflow_sub-range : goal.overflow_sub-range
+overflow_sub-range c =
+    let rows = c.args.rows.now in
+    let entries = c.args.entries.now in
+    let e = entry_at entries c.args.place in
+    let h = c.requires.ready in
+    let lim : (limits_at rows e.row).lower ≡ Some c.in-Some.lower = c.in-Some.is in
+    let fu : FitsSigned w128 c.in-Some.lower = search rules in
+    let fr : FitsSigned w128 c.args.range.high = search rules in
+    let fits = lower_slack_fits rows e.row c.args.range.high c.in-Some.lower h.limits_small h.high_small lim in
+    simp to_z-of_z fits
+
+pub cut_below-requires-clause-fits : goal.cut_below-requires-clause-fits
+cut_below-requires-clause-fits c =
+    let rows = c.args.rows.now in
+    let entries = c.args.entries.now in
+    let e = entry_at entries c.args.place in
+    let h = c.requires.ready in
+    let lim : (limits_at rows e.row).lower ≡ Some c.in-Some.lower = c.in-Some.is in
+    let fu : FitsSigned w128 c.in-Some.lower = search rules in
+    let fr : FitsSigned w128 c.args.range.high = search rules in
+    let fv : FitsSigned w128 e.value = search rules in
+    let fits = lower_slack_fits rows e.row c.args.range.high c.in-Some.lower h.limits_small h.high_small lim in
+    simp to_z-of_z h.entry_small
+
+pub cut_below-requires-clause-slack : goal.cut_below-requires-clause-slack
+cut_below-requires-clause-slack c =
+    let rows = c.args.rows.now in
+    let entries = c.args.entries.now in
+    let e = entry_at entries c.args.place in
+    let h = c.requires.ready in
+    let lim : (limits_at rows e.row).lower ≡ Some c.in-Some.lower = c.in-Some.is in
+    let fu : FitsSigned w128 c.in-Some.lower = search rules in
+    let fr : FitsSigned w128 c.args.range.high = search rules in
+    let fv : FitsSigned w128 e.value = search rules in
+    let fits = lower_slack_fits rows e.row c.args.range.high c.in-Some.lower h.limits_small h.high_small lim in
+    simp to_z-of_z (lower_slack rows e.row c.args.range.low c.args.range.high c.in-Some.lower lim h.not_missed)
+
+pub returns : goal.returns
+returns c =
+    let rows = c.args.rows.now in
+    let entries = c.args.entries.now in
+    let e = entry_at entries c.args.place in
+    let h = c.requires.ready in
+    let lim : (limits_at rows e.row).lower ≡ Some c.in-Some.lower = c.in-Some.is in
+    let fu : FitsSigned w128 c.in-Some.lower = search rules in
+    let fr : FitsSigned w128 c.args.range.high = search rules in
+    let fv : FitsSigned w128 e.value = search rules in
+    let fits = lower_slack_fits rows e.row c.args.range.high c.in-Some.lower h.limits_small h.high_small lim in
+    let keeps : KeepsBelow e.value (side_at c.args.sides.now e.column) (c.args.range.high -ℤ c.in-Some.lower) c.cut_below.result = simp to_z-of_z at c.cut_below.ensures in
+    cut_is_below rows entries c.args.sides.now c.args.range.high c.args.place c.in-Some.lower c.cut_below.result c.requires.place h.row h.column h.high lim keeps
+
+pub returns-then-side : goal.returns-then-side
+returns-then-side c = cut_self c.args.rows.now c.args.entries.now c.args.sides.now (entry_at c.args.entries.now c.args.place).column c.requires.ready.column c.requires.ready.filled

@@ -1,0 +1,69 @@
+use io_edge::{SureShelf, SureSink};
+use sppy_cli::{InputFault, InputFile, InputKind, Status, desk};
+use std::alloc::{AllocError, Global};
+use std::process::Abort;
+
+/// The core, time and stoch file of the worked example SMALL.
+pub const SMALL: [&str; 3] = [
+    "NAME SMALL\nROWS\n N COST\n G NEED\nCOLUMNS\n X COST 1 NEED 1\n Y COST 3 NEED 1\nRHS\n RHS NEED 2\nBOUNDS\n UP BND X 10\n UP BND Y 10\nENDATA\n",
+    "TIME SMALL\nPERIODS\n X COST T1\n Y NEED T2\nENDATA\n",
+    "STOCH SMALL\nSCENARIOS DISCRETE\n SC LOW ROOT 0.5 T2\n RHS NEED 2\n SC HIGH ROOT 0.5 T2\n RHS NEED 6\nENDATA\n",
+];
+
+/// The stoch file with a demand that no plan meets in the second scenario.
+pub const HARD_STOCH: &str =
+    "STOCH SMALL\nSCENARIOS DISCRETE\n SC LOW ROOT 0.5 T2\n RHS NEED 2\n SC HIGH ROOT 0.5 T2\n RHS NEED 30\nENDATA\n";
+
+/// The heading that `wait` writes of SMALL.
+pub const HEADING: &str =
+    "sppy 1\nscenarios 2 periods 2 nodes 3\ncolumns 2 taken-whole 2 rows 1\nunit 1/20\n";
+
+/// The text that `wait` writes of SMALL.
+pub const TEXT: &str =
+    "sppy 1\nscenarios 2 periods 2 nodes 3\ncolumns 2 taken-whole 2 rows 1\nunit 1/20\nfirst 80 none\nlower 80 = 4\nupper none\n";
+
+/// The words of `wait` over files of these names.
+pub const WAIT: [&str; 8] = [
+    "wait", "core", "time", "stoch", "--scale", "2", "--rho", "1",
+];
+
+/// The words as a program is given them.
+pub fn words(alloc: Global, given: &[&str]) -> Result<Vec<String>, AllocError> {
+    let mut words = Vec::new(alloc);
+    for word in given {
+        words.push(String::from_str(alloc, word)?)?;
+    }
+    Ok(words)
+}
+
+/// What `wait` over these files wrote, and its status, where no call fails.
+pub fn ran(
+    alloc: Global,
+    core: &str,
+    time: &str,
+    stoch: &str,
+) -> Result<(Status, Vec<u8>), AllocError> {
+    let mut shelf = SureShelf::new(alloc);
+    shelf.add("core", core.as_bytes())?;
+    shelf.add("time", time.as_bytes())?;
+    shelf.add("stoch", stoch.as_bytes())?;
+    let mut out = SureSink::new(alloc);
+    let status = desk(alloc, &words(alloc, &WAIT)?, &mut shelf, &mut out);
+    let written = Vec::from_slice(alloc, out.bytes())?;
+    Ok((status, written))
+}
+
+/// Asserts a status and what was written.
+pub fn expect(rt: &impl Abort, found: &(Status, Vec<u8>), status: Status, text: &str, which: &str) {
+    assert_eq!(rt; found.0, status, "{which}");
+    assert_eq!(rt; found.1.as_slice(), text.as_bytes(), "{which}");
+}
+
+/// The status of a file of another form.
+pub fn unbuilt(file: InputFile) -> Status {
+    Status::Input(InputFault {
+        file,
+        line: 0,
+        kind: InputKind::Unbuilt,
+    })
+}
