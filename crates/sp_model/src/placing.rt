@@ -1,0 +1,61 @@
+ghost use Rattle.std.specs.Prelude.{◌≡◌, OnOk};
+ghost use Rattle.sp_model.specs.Changes.{is_at, is_before, place_of, put_entry, stands_at};
+
+use boxed_problem::Entry;
+use std::alloc::AllocError;
+
+// Whether an entry stands before the place of another, by column and then by row.
+fn is_before(entry: &Entry, other: &Entry) -> bool
+    ensures { result ≡ is_before entry.now other.now }
+{
+    if entry.column == other.column {
+        entry.row < other.row
+    } else {
+        entry.column < other.column
+    }
+}
+
+// How many entries stand before the place of an entry.
+fn place_of(entries: &[Entry], entry: &Entry) -> usize
+    ensures { result ≡ place_of entry.now entries.now }
+{
+    for i in 0..entries.len() {
+        if !is_before(&entries[i], entry) {
+            return i;
+        }
+    }
+    entries.len()
+}
+
+// Whether two entries are of one place.
+fn is_at(entry: &Entry, other: &Entry) -> bool
+    ensures { result ≡ is_at entry.now other.now }
+{
+    entry.column == other.column && entry.row == other.row
+}
+
+// Whether the entry at a place of the list is of the place of another.
+fn stands_at(entries: &[Entry], at: usize, entry: &Entry) -> bool
+    ensures { result ≡ stands_at entry.now entries.now at }
+{
+    if at < entries.len() {
+        is_at(&entries[at], entry)
+    } else {
+        false
+    }
+}
+
+/// Puts an entry in its place in the order of columns and rows: over the one of
+/// its place, else in between.
+pub fn put_entry(entries: &mut Vec<Entry>, entry: Entry) -> Result<(), AllocError>
+    ensures { OnOk result (entries.new.items ≡ put_entry entry entries.old.items) }
+{
+    let at = place_of(entries.as_slice(), &entry);
+    if stands_at(entries.as_slice(), at, &entry) {
+        entries[at] = entry;
+        Ok(())
+    } else {
+        entries.insert(at, entry)?;
+        Ok(())
+    }
+}
