@@ -1,0 +1,12 @@
+//! Prices of the rows that raise the bound over given sides, by exact ascent
+//! over one row's price after another.
+#![tactic(auto)]
+
+mod ascent;
+mod climbing;
+mod improving;
+mod parts;
+#[cfg(test)]
+mod tests;
+
+pub use improving::improve;

@@ -1,0 +1,5 @@
+pub mod Leasts
+pub mod PriceBound
+pub mod Reducing
+pub mod ReducedOf
+pub mod Runs
