@@ -1,0 +1,17 @@
+pub mod BoundLines
+pub mod BoundParts
+pub mod Boxes
+pub mod ColumnLines
+pub mod ColumnParts
+pub mod HeaderParts
+pub mod Headers
+pub mod Lines
+pub mod Meaning
+pub mod PartFacts
+pub mod Parts
+pub mod RowLines
+pub mod SideLines
+pub mod SideParts
+pub mod States
+pub mod Steps
+pub mod Words

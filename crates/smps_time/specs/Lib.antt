@@ -1,0 +1,5 @@
+pub mod PlainCores
+pub mod Reading
+pub mod Stages
+pub mod TimeAnswers
+pub mod TimeFile

@@ -1,0 +1,4 @@
+pub mod Fields
+pub mod FoldLaw
+pub mod ToldLaws
+pub mod PlaceLaw

@@ -1,0 +1,28 @@
+ghost use Rattle.std.specs.Prelude.{◌≡◌, length};
+ghost use Rattle.smps_words.specs.TextLines.{field, text_of};
+
+use line_core::Line;
+
+/// A line of a file with the bytes of the file.
+#[derive(Clone, Copy)]
+pub struct FileLine<'a> {
+    pub bytes: &'a [u8],
+    pub line: &'a Line,
+}
+
+impl<'a> FileLine<'a> {
+    /// The text of the field `k`, counted from 0. It is empty where there is
+    /// no such field.
+    pub fn field(&self, k: usize) -> &'a [u8]
+        ensures { result.now ≡ field k (text_of self.now) }
+    {
+        self.line.field(self.bytes, k)
+    }
+
+    /// How many fields there are.
+    pub fn count(&self) -> usize
+        ensures { result ≡ length (text_of self.now).fields }
+    {
+        self.line.fields.len()
+    }
+}

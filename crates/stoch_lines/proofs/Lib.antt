@@ -1,0 +1,5 @@
+pub mod Adding
+pub mod Answering
+pub mod Equal
+pub mod Marking
+pub mod Positions

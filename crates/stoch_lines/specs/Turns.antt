@@ -1,0 +1,62 @@
+-- What a step of the reader answers to a line, and the state as what the lines before it say.
+use Rattle.std.specs.Prelude.{◌≡◌, Bool, List, ◌∷◌, ◌<◌, false, length, map, Option, Some, None, Result, Ok, Err}
+use Rattle.std.specs.Option.{option_to_list}
+use Rattle.smps_words.specs.declared.core_file.Core.{Core}
+use Rattle.smps_words.specs.declared.periods.Periods.{Periods}
+use Rattle.smps_words.specs.TextLines.{TextLine, field}
+use Rattle.stoch_lines.specs.declared.kinds.StochKind.{StochKind}
+use Rattle.stoch_lines.specs.declared.kinds.StochFault.{StochFault}
+use Rattle.stoch_lines.specs.declared.kinds.StochFault.TheVariants as faults
+use Rattle.stoch_lines.specs.declared.pairs.Pairs.{Pairs}
+use Rattle.stoch_lines.specs.declared.places.StochEntry.{StochEntry}
+use Rattle.stoch_lines.specs.declared.places.StochPlace.{StochPlace}
+use Rattle.stoch_lines.specs.declared.state.State.{State}
+use Rattle.stoch_lines.specs.declared.state.ScenarioHead.{ScenarioHead}
+use Rattle.stoch_lines.specs.Sayings.{scenario_head}
+use Rattle.stoch_lines.specs.Before.{Before, next}
+use Rattle.stoch_lines.specs.Faults.{line_fault, is_end, is_scenario, max_scenarios}
+
+-- a state shows what the lines before say
+abbrev pub before_in : State → Before
+before_in state = record {
+  nothing = state.nothing;
+  section = state.section;
+  begun = state.begun;
+  blocks = state.blocks;
+  sources = state.sources;
+  periods = state.periods;
+  realisations = state.realisations;
+  entries = state.entries;
+  scenarios = state.scenarios;
+  names = state.names;
+}
+
+-- an error tells this fault at this line; want of memory may come at any time
+abbrev pub Refuses : StochFault → Option StochKind → TextLine → Type 0
+Refuses faults.Memory fault line = Unit {0}
+Refuses (faults.At number kind) fault line = (number ≡ line.number) × (fault ≡ Some kind)
+
+-- a step tells the line's fault, and where there is none it makes the state such
+abbrev pub Turns : {X : Type 0} → Option StochKind → TextLine → Result X StochFault → Type 0 → Type 0
+Turns fault line (Ok x) after = (fault ≡ None) × after
+Turns fault line (Err e) after = Refuses e fault line
+
+-- a whole step tells whether the line ends the file besides
+abbrev pub Steps : Core → Periods → Before → TextLine → Result Bool StochFault → Before → Type 0
+Steps core periods b line (Ok ended) after =
+    (line_fault core periods b line ≡ None) × (ended ≡ is_end line) × (after ≡ next core periods b line)
+Steps core periods b line (Err e) after = Refuses e (line_fault core periods b line) line
+
+-- a scenario that a line begins has a new name, and there is room for it
+abbrev pub IsNewScenario : Periods → Before → TextLine → ScenarioHead → Type 0
+IsNewScenario periods b line scenario =
+    (scenario ≡ scenario_head periods b.names line)
+    × (length b.names < max_scenarios)
+    × (is_scenario b (field 1 line) ≡ false)
+
+-- the entries of one or two pairs, and their places
+abbrev pub pair_entries : Pairs → List StochEntry
+pair_entries pairs = pairs.first ∷ option_to_list pairs.second
+
+abbrev pub pair_places : Pairs → List StochPlace
+pair_places pairs = map (λ e. e.place) (pair_entries pairs)

@@ -1,0 +1,96 @@
+ghost use Rattle.std.specs.Prelude.{◌≡◌, ◌≤◌, length};
+ghost use Rattle.smps_words.specs.PeriodFacts.{max_periods};
+ghost use Rattle.smps_words.specs.TextLines.{text_of};
+ghost use Rattle.stoch_lines.specs.Places.{place_in_column, place_on_right, is_right_name, place_of, same_place, stage_in, stage_of, anticipates};
+ghost use Rattle.stoch_lines.specs.Sayings.{place_at};
+
+use crate::fields::same;
+use crate::places::StochPlace;
+use smps_words::{Core, FileLine, Periods};
+
+fn place_in_column(core: &Core, column: u32, row: &[u8]) -> Option<StochPlace>
+    ensures { result ≡ place_in_column core.now column row.now }
+{
+    if same(row, core.objective.as_slice()) {
+        return Some(StochPlace::Cost(column));
+    }
+    match core.row_names.find(row) {
+        Some(number) => Some(StochPlace::Cell(number, column)),
+        None => None,
+    }
+}
+
+fn place_on_right(core: &Core, row: &[u8]) -> Option<StochPlace>
+    ensures { result ≡ place_on_right core.now row.now }
+{
+    match core.row_names.find(row) {
+        Some(number) => Some(StochPlace::Right(number)),
+        None => None,
+    }
+}
+
+fn is_right_name(core: &Core, first: &[u8]) -> bool
+    ensures { result ≡ is_right_name core.now first.now }
+{
+    same(first, b"RHS") || same(first, core.right_name.as_slice())
+}
+
+/// The place that a first field and a row name, if they name one.
+pub fn place_of(core: &Core, first: &[u8], row: &[u8]) -> Option<StochPlace>
+    ensures { result ≡ place_of core.now first.now row.now }
+{
+    match core.column_names.find(first) {
+        Some(column) => place_in_column(core, column, row),
+        None if is_right_name(core, first) => place_on_right(core, row),
+        None => None,
+    }
+}
+
+/// The place that a line's first field and its field `k` name.
+pub fn place_at(core: &Core, k: usize, line: &FileLine<'_>) -> Option<StochPlace>
+    ensures { result ≡ place_at core.now k (text_of line.now) }
+{
+    place_of(core, line.field(0), line.field(k))
+}
+
+/// Whether two places are the same.
+pub fn same_place(place: StochPlace, other: StochPlace) -> bool
+    ensures { result ≡ same_place place other }
+{
+    match (place, other) {
+        (StochPlace::Cost(a), StochPlace::Cost(b)) => a == b,
+        (StochPlace::Cell(a, c), StochPlace::Cell(b, d)) => a == b && c == d,
+        (StochPlace::Right(a), StochPlace::Right(b)) => a == b,
+        _ => false,
+    }
+}
+
+fn stage_in(firsts: &[u32], number: u32) -> u8
+    requires { length firsts.now ≤ max_periods }
+    ensures { result ≡ stage_in firsts.now number }
+{
+    firsts.iter().filter(|first| **first <= number).count() as u8
+}
+
+/// The stage of a place: its row's, or for a cost the column's.
+pub fn stage_of(periods: &Periods, place: StochPlace) -> u8
+    ensures { result ≡ stage_of periods.now place }
+{
+    match place {
+        StochPlace::Cost(column) => stage_in(periods.columns.as_slice(), column),
+        StochPlace::Cell(row, _) => stage_in(periods.rows.as_slice(), row),
+        StochPlace::Right(row) => stage_in(periods.rows.as_slice(), row),
+    }
+}
+
+/// Whether a place is that of a column in a row of an earlier stage.
+pub fn anticipates(periods: &Periods, place: StochPlace) -> bool
+    ensures { result ≡ anticipates periods.now place }
+{
+    match place {
+        StochPlace::Cell(row, column) => {
+            stage_in(periods.rows.as_slice(), row) < stage_in(periods.columns.as_slice(), column)
+        }
+        _ => false,
+    }
+}
