@@ -1,0 +1,11 @@
+use Rattle.std.proofs.Common.{◌≡◌, [], length, take}
+use Rattle.std.specs.List.{fold}
+use Rattle.scenario_lists.specs.ScenarioList.{AreRows, with_marks}
+use Rattle.scenario_lists.proofs.branches.branch_marks.Given as goal
+
+abbrev pub invariant-loop-k : goal.invariant-loop-k
+invariant-loop-k l = record {
+  made : l.made ≡ fold (with_marks l.stages) [] (take l.k l.branches);
+  many : length l.made ≡ l.k;
+  rows : AreRows l.stages l.made;
+}

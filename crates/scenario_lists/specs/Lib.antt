@@ -1,0 +1,4 @@
+pub mod Capped
+pub mod Combinations
+pub mod Distinct
+pub mod ScenarioList

@@ -1,0 +1,25 @@
+ghost use Rattle.std.specs.Prelude.{◌≡◌, ◌↔◌, ℕ, ◌<◌, List, false, length, map, slice_index_or};
+ghost use Rattle.std.specs.List.{AllPairs, range_with_len};
+ghost use Rattle.stoch_lines.specs.Places.{same_place};
+ghost use Rattle.stoch_lines.specs.declared.places.StochEntry.{StochEntry};
+ghost use Rattle.smps_stoch.specs.declared.stoch.Element.{Element};
+ghost use Rattle.scenario_lists.specs.Combinations.{Agree, all_choices, choices_of, combinations, mark_in};
+ghost use Rattle.scenario_lists.specs.Distinct.{first_of_each};
+
+/// The combinations, by their numbers, are all choices in order: those that
+/// begin with the first realisation of the first element, then those that begin
+/// with its second, and so on.
+pub fn combinations_in_order()
+    ensures { (elements : List Element) → map (choices_of elements) (range_with_len 0 (combinations elements)) ≡ all_choices elements }
+{}
+
+/// Two combinations have the same mark at a stage exactly where they choose the
+/// same realisation in every element of a period up to it.
+pub fn marks_of_agreeing()
+    ensures { (elements : List Element) (t s u : ℕ) → s < combinations elements → u < combinations elements → (mark_in elements (choices_of elements s) t ≡ mark_in elements (choices_of elements u) t) ↔ Agree elements (choices_of elements s) (choices_of elements u) t }
+{}
+
+/// No two entries of a scenario are of one place.
+pub fn places_differ()
+    ensures { (entries : List StochEntry) → AllPairs (λ e f. same_place e.place f.place ≡ false) (first_of_each entries) }
+{}

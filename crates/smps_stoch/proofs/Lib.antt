@@ -1,0 +1,9 @@
+pub mod Answering
+pub mod Entries
+pub mod FieldLaws
+pub mod Filling
+pub mod OwnEntries
+pub mod SaidLaws
+pub mod Saying
+pub mod StochLaws
+pub mod Weighing

@@ -1,0 +1,73 @@
+-- The data of all that a stoch file says have their facts.
+use Rattle.std.proofs.Common.{◌≡◌, sym, ap, ◌∙◌, subst, ℕ, ◌<◌, ◌≤◌, ◌==◌, Bool, true, false, List, length, map, get_or, eq-eqb}
+use Rattle.std.specs.Prelude.{if◌then◌else◌}
+use Rattle.std.specs.List.{All, range_with_len}
+use Rattle.std.proofs.lemmas.List.{length-map}
+use Rattle.std.proofs.lemmas.List.Elements.{All-filter, All-map, All-weaker}
+use Rattle.std.proofs.lemmas.List.FromFn.{length-map-range_with_len}
+use Rattle.smps_words.specs.declared.periods.Periods.{Periods}
+use Rattle.stoch_lines.specs.Before.{Before}
+use Rattle.stoch_lines.specs.Faults.{max_scenarios}
+use Rattle.stoch_lines.specs.declared.entries.Owned.{Owned}
+use Rattle.stoch_lines.specs.declared.state.Chosen.{Chosen}
+use Rattle.stoch_lines.specs.declared.state.ScenarioHead.{ScenarioHead}
+use Rattle.smps_stoch.specs.declared.drafts.Draft.{Draft}
+use Rattle.smps_stoch.specs.declared.stoch.Branch.{Branch}
+use Rattle.smps_stoch.specs.declared.stoch.Realisation.{Realisation}
+use Rattle.smps_stoch.specs.declared.stoch.Stoch.TheVariants.{Product, Scenarios}
+use Rattle.smps_stoch.specs.SaidFacts.{AreElements, AreHeads, IsHead, IsProbable, SaidFacts}
+use Rattle.smps_stoch.specs.StochData.{branch_at, branches_of, draft_at, drafts_at, drafts_of, element_at, elements_of, no_choice, no_scenario, places_of, scenario_places, stoch_of, weighed_at}
+use Rattle.smps_stoch.specs.StochFacts.{no_branch, BranchFacts, ElementFacts, IsEarlier, IsPeriod, IsWeight, StochFacts}
+use Rattle.smps_stoch.proofs.Filling.{all_made, made_at, passing_left}
+use Rattle.smps_stoch.proofs.Weighing.{weights_are}
+
+-- each realisation's probability is that of its line
+pub drafts_probable : (realisations : List Chosen) (entries : List Owned) → All (λ c. IsProbable c.probability) realisations → All (λ d. IsProbable d.probability) (drafts_of realisations entries)
+drafts_probable realisations entries all =
+    all_made (λ (d : Draft). IsProbable d.probability) (draft_at realisations entries) (length realisations) (λ k lt. all k no_choice lt)
+
+pub heads_probable : (periods : Periods) (scenarios : List ScenarioHead) → All (IsHead periods) scenarios → All (λ s. IsProbable s.probability) scenarios
+heads_probable periods scenarios all = All-weaker (IsHead periods) (λ (s : ScenarioHead). IsProbable s.probability) (λ s head. head.probable) scenarios all
+
+module _ (periods : Periods) (b : Before) where
+  element_well : AreElements periods b.realisations b.periods b.sources → (k : ℕ) → k < length b.periods → ElementFacts periods (element_at b.periods (drafts_of b.realisations b.entries) k)
+  element_well facts k lt =
+      let drafts = drafts_of b.realisations b.entries in
+      let own = drafts_at drafts k in
+      let n = length b.realisations in
+      let used = facts.used k lt in
+      let last = draft_at b.realisations b.entries used.0 in
+      let long : length drafts ≡ n = length-map-range_with_len (draft_at b.realisations b.entries) 0 n in
+      let at : get_or drafts used.0 last ≡ last = made_at (draft_at b.realisations b.entries) n used.0 last used.1 in
+      let pass : ((get_or drafts used.0 last).element == k) ≡ true = eq-eqb _ _ (ap (λ (d : Draft). d.element) at ∙ used.2) in
+      let some = passing_left (λ (d : Draft). d.element == k) drafts used.0 last (subst (λ (m : ℕ). used.0 < m) (sym long) used.1) pass in
+      let probable = All-filter (λ (d : Draft). d.element == k) (λ (d : Draft). IsProbable d.probability) drafts (drafts_probable b.realisations b.entries facts.probable) in
+      record {
+        period = facts.later k 0 lt;
+        some = subst (λ (m : ℕ). 0 < m) (sym (length-map own (weighed_at (places_of own)))) some;
+        weights = All-map (λ (r : Realisation). IsWeight r.weight) (weighed_at (places_of own)) own (weights_are (λ (d : Draft). d.probability) own probable);
+      }
+
+  branches_well : AreHeads periods b.scenarios b.names → BranchFacts periods (branches_of b.scenarios b.entries)
+  branches_well facts =
+      let places = scenario_places b.scenarios in
+      let f = branch_at places b.scenarios b.entries in
+      let n = length b.scenarios in
+      let long : length (map f (range_with_len 0 n)) ≡ n = length-map-range_with_len f 0 n in
+      let weights = weights_are (λ (s : ScenarioHead). s.probability) b.scenarios (heads_probable periods b.scenarios facts.heads) in
+      record {
+        few = subst (λ (m : ℕ). m ≤ max_scenarios) (sym long) facts.few;
+        period = all_made (λ (x : Branch). IsPeriod periods x.period) f n (λ k lt. (facts.heads k no_scenario lt).period);
+        weights = all_made (λ (x : Branch). IsWeight x.weight) f n (λ k lt. weights k no_scenario lt);
+        parents = λ k lt.
+            let below : k < n = subst (λ (m : ℕ). k < m) long lt in
+            subst (λ (x : Branch). IsEarlier x.parent k) (sym (made_at f n k no_branch below)) (facts.parents k below);
+      }
+
+  by_kind : (product : Bool) → SaidFacts periods b → StochFacts periods (if product then Product (elements_of b.periods (drafts_of b.realisations b.entries)) else Scenarios (branches_of b.scenarios b.entries))
+  by_kind true facts =
+      all_made (ElementFacts periods) (element_at b.periods (drafts_of b.realisations b.entries)) (length b.periods) (element_well facts.elements)
+  by_kind false facts = branches_well facts.heads
+
+  pub stoch_well : SaidFacts periods b → StochFacts periods (stoch_of b)
+  stoch_well facts = by_kind (length b.scenarios == 0) facts

@@ -1,0 +1,14 @@
+use Rattle.std.proofs.Common.{arith}
+use Rattle.std.proofs.lemmas.Result.{on_ok_weaker}
+use Rattle.smps_stoch.proofs.Entries.{branch_pushed, branches_stay}
+use Rattle.smps_stoch.proofs.branches.add_entry.Goals as goal
+
+pub returns-then-owned-len : goal.returns-then-owned-len
+returns-then-owned-len c =
+    branches_stay c.args.branches.now.items c.args.owned.now (omega (arith, c.len.ensures, c.if-owned-len.true, c.args.branches.now.ok.0))
+
+pub returns : goal.returns
+returns c =
+    on_ok_weaker c.push.result
+    (branch_pushed c.args.branches.now.items c.args.owned.now c.index_mut.result.now c.push.new.self (omega (arith, c.len.ensures, c.if-owned-len.false, c.args.branches.now.ok.0)) c.index_mut.ensures.value)
+    c.push.ensures.ok

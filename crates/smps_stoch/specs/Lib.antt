@@ -1,0 +1,5 @@
+pub mod ElementSteps
+pub mod SaidFacts
+pub mod StochData
+pub mod StochFacts
+pub mod StochMeaning

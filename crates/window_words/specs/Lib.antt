@@ -1,0 +1,4 @@
+pub mod Conditions
+pub mod Rule
+pub mod Steps
+pub mod Views
