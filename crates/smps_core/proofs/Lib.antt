@@ -1,0 +1,5 @@
+mod Accepted
+mod ByNumber
+mod Facts
+mod Saying
+mod Sorting

@@ -1,0 +1,136 @@
+-- What lists of lines tell is what one of the lines tells, behind those before it; so with the pairs of COLUMNS, and the entries made of them.
+use Rattle.std.proofs.Common.{◌≡◌, refl, sym, subst, ap, ◌∙◌, ℕ, suc, zero, ◌+◌, ◌-◌, ◌<◌, Bool, true, false, List, [], ◌∷◌, ◌++◌, length, map, take, get_or, append_assoc, inl, inr, arith}
+use Rattle.std.specs.Prelude.{◌⊎◌, cond, if◌then◌else◌, Option, Some, None}
+use Rattle.std.specs.List.{Contains, filter}
+use Rattle.std.proofs.lemmas.Bool.{cases_eq}
+use Rattle.std.proofs.lemmas.Grind.{common_steps}
+use Rattle.std.proofs.lemmas.List.{append-nil, get_or-map, length-map}
+use Rattle.std.proofs.lemmas.List.Elements.{All-contains_itself, All-filter, Contains-append_left, Contains-append_right, Contains-append_cases, filter_passes}
+use Rattle.std.proofs.lemmas.List.Sorted.{Contains-permutation, IsPermutation-sym}
+use Rattle.dec_core.specs.declared.decimal.Decimal.{Decimal}
+use Rattle.smps_words.specs.CoreFacts.{zero_decimal}
+use Rattle.smps_words.specs.Outcomes.{told}
+use Rattle.smps_words.specs.TextLines.{TextLine, no_line}
+use Rattle.smps_words.specs.declared.core_data.CoreEntry.{CoreEntry}
+use Rattle.core_lines.specs.ColumnLines.{cell_for, cell_in, cells_in, has_second, is_marker}
+use Rattle.core_lines.specs.Headers.{is_columns}
+use Rattle.core_lines.specs.Lines.{cells_of, column_names_of, is_within, rows_of, section_of}
+use Rattle.core_lines.specs.declared.cells.Cell.{Cell}
+use Rattle.smps_core.specs.CoreData.{AreEntriesOf, entries_of, entry_of, is_entry}
+use Rattle.smps_core.specs.Laws.{BothWays, HasPairAt, IsSaid, SaysCell, cell_at}
+
+none_in : {X : Type 0} (x : X) → Contains [] x → ⊥
+none_in x (k, lt, is) = omega (arith, lt)
+
+-- one of the lines tells x, behind those before it
+abbrev IsTold : {L X : Type 0} → (List L → L → List X) → L → X → List L → List L → Type 0
+IsTold tells d x before xs = (n : ℕ) × (n < length xs) × Contains (tells (before ++ take n xs) (get_or xs n d)) x
+
+later : {L X : Type 0} (tells : List L → L → List X) (d : L) (x : X) (before : List L) (line : L) (rest : List L) → IsTold tells d x (before ++ line ∷ []) rest → IsTold tells d x before (line ∷ rest)
+later {L} tells d x before line rest (n, lt, found) = (suc n, omega (arith, lt), subst (λ (b : List L). Contains (tells b (get_or rest n d)) x) (append_assoc before (line ∷ []) (take n rest)) found)
+
+here_or_later : {L X : Type 0} (tells : List L → L → List X) (d : L) (x : X) (before : List L) (line : L) (rest : List L) → (Contains (told tells (before ++ line ∷ []) rest) x → IsTold tells d x (before ++ line ∷ []) rest) → Contains (tells before line) x ⊎ Contains (told tells (before ++ line ∷ []) rest) x → IsTold tells d x before (line ∷ rest)
+here_or_later {L} tells d x before line rest on (inl here) = (0, omega arith, subst (λ (b : List L). Contains (tells b line) x) (sym (append-nil before)) here)
+here_or_later tells d x before line rest on (inr there) = later tells d x before line rest (on there)
+
+at_a_line : {L X : Type 0} (tells : List L → L → List X) (d : L) (x : X) (before xs : List L) → Contains (told tells before xs) x → IsTold tells d x before xs
+at_a_line tells d x before [] there = absurd (none_in x there)
+at_a_line tells d x before (line ∷ rest) there = here_or_later tells d x before line rest (at_a_line tells d x (before ++ line ∷ []) rest) (Contains-append_cases (tells before line) (told tells (before ++ line ∷ []) rest) x there)
+
+by_a_line : {L X : Type 0} (tells : List L → L → List X) (d : L) (x : X) (before xs : List L) (n : ℕ) → n < length xs → Contains (tells (before ++ take n xs) (get_or xs n d)) x → Contains (told tells before xs) x
+by_a_line tells d x before [] n lt found = absurd (omega (arith, lt))
+by_a_line {L} tells d x before (line ∷ rest) zero lt found = Contains-append_left (tells before line) (told tells (before ++ line ∷ []) rest) x (subst (λ (b : List L). Contains (tells b line) x) (append-nil before) found)
+by_a_line {L} tells d x before (line ∷ rest) (suc n) lt found = Contains-append_right (tells before line) (told tells (before ++ line ∷ []) rest) x (by_a_line tells d x (before ++ line ∷ []) rest n (omega (arith, lt)) (subst (λ (b : List L). Contains (tells b (get_or rest n d)) x) (sym (append_assoc before (line ∷ []) (take n rest))) found))
+
+-- the pair of a row that isn't ignored
+abbrev AreParts : Option ℕ → ℕ → Decimal → ℕ → Cell → Type 0
+AreParts place column value number c = (place ≡ Some c.row) × (column ≡ c.column) × (value ≡ c.value) × (number ≡ c.line)
+
+parts_of : (place : Option ℕ) (column : ℕ) (value : Decimal) (number : ℕ) (c : Cell) → Contains (cell_for place column value number) c → AreParts place column value number c
+parts_of None column value number c there = absurd (none_in c there)
+parts_of (Some place) column value number c (zero, lt, is) = (ap (λ (d : Cell). Some d.row) is, ap (λ (d : Cell). d.column) is, ap (λ (d : Cell). d.value) is, ap (λ (d : Cell). d.line) is)
+parts_of (Some place) column value number c (suc k, lt, is) = absurd (omega (arith, lt))
+
+of_parts : (place : Option ℕ) (column : ℕ) (value : Decimal) (number : ℕ) (c : Cell) → AreParts place column value number c → Contains (cell_for place column value number) c
+of_parts place column value number c (row, col, val, num) =
+    let same : record { row = c.row; column = column; value = value; line = number } ≡ c = λ i. record { row = c.row; column = col i; value = val i; line = num i } in
+    subst (λ (p : Option ℕ). Contains (cell_for p column value number) c) (sym row) (0, omega arith, same)
+
+-- what a line of COLUMNS tells, by the tests on it
+said_by_line : (before : List TextLine) (line : TextLine) (c : Cell) (w m s : Bool) → is_within is_columns (section_of before) line ≡ w → is_marker line ≡ m → has_second line ≡ s → Contains (if w then (if m then [] else (cell_in (rows_of before) (column_names_of before) 1 line ++ (if s then cell_in (rows_of before) (column_names_of before) 3 line else []))) else []) c → SaysCell before line c
+said_by_line before line c false m s within marker second there = absurd (none_in c there)
+said_by_line before line c true true s within marker second there = absurd (none_in c there)
+said_by_line before line c true false s within marker second there = ((within, marker), by s second (Contains-append_cases (cell_in (rows_of before) (column_names_of before) 1 line) (if s then cell_in (rows_of before) (column_names_of before) 3 line else []) c there))
+  where
+    by : (t : Bool) → has_second line ≡ t → Contains (cell_in (rows_of before) (column_names_of before) 1 line) c ⊎ Contains (if t then cell_in (rows_of before) (column_names_of before) 3 line else []) c → HasPairAt before line 1 c ⊎ ((has_second line ≡ true) × HasPairAt before line 3 c)
+    by t is (inl here) = inl (parts_of _ _ _ _ c here)
+    by true is (inr there) = inr (is, parts_of _ _ _ _ c there)
+    by false is (inr there) = absurd (none_in c there)
+
+line_says : (before : List TextLine) (line : TextLine) (c : Cell) → SaysCell before line c → Contains (if is_within is_columns (section_of before) line then cells_in (rows_of before) (column_names_of before) line else []) c
+line_says before line c ((within, marker), pair) =
+    let first : List Cell = cell_in (rows_of before) (column_names_of before) 1 line in
+    let second : List Cell = cell_in (rows_of before) (column_names_of before) 3 line in
+    subst (λ (w : Bool). Contains (if w then cells_in (rows_of before) (column_names_of before) line else []) c) (sym within)
+    (subst (λ (m : Bool). Contains (if m then [] else (first ++ (if has_second line then second else []))) c) (sym marker) (by pair))
+  where
+    by : HasPairAt before line 1 c ⊎ ((has_second line ≡ true) × HasPairAt before line 3 c) → Contains (cell_in (rows_of before) (column_names_of before) 1 line ++ (if has_second line then cell_in (rows_of before) (column_names_of before) 3 line else [])) c
+    by (inl parts) = Contains-append_left (cell_in (rows_of before) (column_names_of before) 1 line) (if has_second line then cell_in (rows_of before) (column_names_of before) 3 line else []) c (of_parts _ _ _ _ c parts)
+    by (inr (has, parts)) = Contains-append_right (cell_in (rows_of before) (column_names_of before) 1 line) (if has_second line then cell_in (rows_of before) (column_names_of before) 3 line else []) c (subst (λ (t : Bool). Contains (if t then cell_in (rows_of before) (column_names_of before) 3 line else []) c) (sym has) (of_parts _ _ _ _ c parts))
+
+abbrev tells : List TextLine → TextLine → List Cell
+tells before line = if is_within is_columns (section_of before) line then cells_in (rows_of before) (column_names_of before) line else []
+
+is_said : (lines : List TextLine) (c : Cell) → IsTold tells no_line c [] lines → IsSaid lines c
+is_said lines c (n, lt, found) = (n, lt, said_by_line (take n lines) (get_or lines n no_line) c _ _ _ refl refl refl found)
+
+pub said_both : (lines : List TextLine) (c : Cell) → BothWays (Contains (cells_of lines) c) (IsSaid lines c)
+said_both lines c = (
+  λ there. is_said lines c (at_a_line tells no_line c [] lines there),
+  λ (n, lt, found). by_a_line tells no_line c [] lines n lt (line_says (take n lines) (get_or lines n no_line) c found),
+)
+
+-- the items that pass
+kept_item : {X : Type 0} (p : X → Bool) (y : X) (ys : List X) (x : X) (t : Bool) → Contains (filter p ys) x → Contains (cond t (y ∷ filter p ys) (filter p ys)) x
+kept_item p y ys x true there = Contains-append_right (y ∷ []) (filter p ys) x there
+kept_item p y ys x false there = there
+
+kept_in : {X : Type 0} (p : X → Bool) (xs : List X) (x : X) (k : ℕ) → p x ≡ true → k < length xs → get_or xs k x ≡ x → Contains (filter p xs) x
+kept_in p [] x k passes lt is = absurd (omega (arith, lt))
+kept_in {X} p (y ∷ ys) x zero passes lt is = subst (λ (t : Bool). Contains (cond t (y ∷ filter p ys) (filter p ys)) x) (sym (ap p is ∙ passes)) (0, omega arith, is)
+kept_in p (y ∷ ys) x (suc k) passes lt is = kept_item p y ys x (p y) (kept_in p ys x k passes (omega (arith, lt)) is)
+
+no_cell : Cell
+no_cell = record { row = 0; column = 0; value = zero_decimal; line = 0 }
+
+back : (c : Cell) → is_entry c ≡ true → cell_at (entry_of c) ≡ c
+back c passes =
+    let row : c.row - 1 + 1 ≡ c.row = elim (cases_eq c.row 0) as (λ _. c.row - 1 + 1 ≡ c.row) [ inl e ↦ grind (arith, common_steps) | inr ne ↦ omega (arith, ne) ] in
+    λ i. record { row = row i; column = c.column; value = c.value; line = c.line }
+
+forth : (e : CoreEntry) → entry_of (cell_at e) ≡ e
+forth e =
+    let row : e.row + 1 - 1 ≡ e.row = omega arith in
+    λ i. record { row = row i; column = e.column; value = e.value; line = e.line }
+
+from_cell : (cells : List Cell) (e : CoreEntry) → Contains (entries_of cells) e → Contains cells (cell_at e)
+from_cell cells e (k, lt, is) =
+    let kept : List Cell = filter is_entry cells in
+    let small : k < length kept = subst (λ (n : ℕ). k < n) (length-map kept entry_of) lt in
+    let same : entry_of (get_or kept k no_cell) ≡ e = sym (get_or-map entry_of kept k no_cell e small) ∙ is in
+    subst (λ (c : Cell). Contains cells c) (sym (back (get_or kept k no_cell) (filter_passes is_entry cells k no_cell small)) ∙ ap cell_at same)
+    (All-filter is_entry (Contains cells) cells (All-contains_itself cells) k no_cell small)
+
+mapped_in : (kept : List Cell) (c : Cell) → Contains kept c → Contains (map entry_of kept) (entry_of c)
+mapped_in kept c (k, lt, is) = (k, subst (λ (n : ℕ). k < n) (sym (length-map kept entry_of)) lt, get_or-map entry_of kept k c (entry_of c) lt ∙ ap entry_of is)
+
+to_entry : (cells : List Cell) (e : CoreEntry) → Contains cells (cell_at e) → Contains (entries_of cells) e
+to_entry cells e (k, lt, is) =
+    let passes : is_entry (cell_at e) ≡ true = grind (arith, common_steps) in
+    subst (λ (f : CoreEntry). Contains (entries_of cells) f) (forth e) (mapped_in (filter is_entry cells) (cell_at e) (kept_in is_entry cells (cell_at e) k passes lt is))
+
+pub entries_both : (cells : List Cell) (entries : List CoreEntry) → AreEntriesOf cells entries → (e : CoreEntry) → BothWays (Contains entries e) (Contains cells (cell_at e))
+entries_both cells entries ordered e = (
+  λ there. from_cell cells e (Contains-permutation entries (entries_of cells) e (IsPermutation-sym (entries_of cells) entries ordered.0) there),
+  λ there. Contains-permutation (entries_of cells) entries e ordered.0 (to_entry cells e there),
+)

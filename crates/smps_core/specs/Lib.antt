@@ -1,0 +1,6 @@
+pub mod CoreData
+pub mod CoreMeaning
+pub mod Entries
+pub mod Joining
+pub mod Laws
+pub mod Rows

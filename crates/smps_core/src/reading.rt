@@ -1,0 +1,22 @@
+ghost use Rattle.core_lines.specs.Meaning.{meaning};
+ghost use Rattle.smps_core.specs.CoreMeaning.{Reads};
+
+use crate::joining::core_of;
+use core_lines::{CoreFault, read_state};
+use smps_words::Core;
+use std::alloc::Global;
+
+/// The data of a core file. `At` comes exactly where the file has a fault, and
+/// names the first one: its line, counted from 1, and its kind. `Memory` may
+/// come for any file.
+pub fn read_core(alloc: Global, bytes: &[u8]) -> Result<Core, CoreFault>
+    ensures { Reads result (meaning bytes.now) }
+{
+    match read_state(alloc, bytes) {
+        Ok(state) => match core_of(alloc, state) {
+            Ok(core) => Ok(core),
+            Err(_) => Err(CoreFault::Memory),
+        },
+        Err(fault) => Err(fault),
+    }
+}
