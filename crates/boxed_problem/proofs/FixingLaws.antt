@@ -7,8 +7,7 @@ use Rattle.base_words.specs.Sums.{size_below}
 use Rattle.boxed_problem.specs.declared.parts.Entry.{Entry}
 use Rattle.boxed_problem.specs.declared.parts.Limits.{Limits}
 use Rattle.boxed_problem.specs.declared.parts.Side.{Side}
-use Rattle.boxed_problem.proofs.LeastLaws.{column_size-within}
-use Rattle.boxed_problem.proofs.RangeLaws.{entries_within}
+use Rattle.boxed_problem.proofs.Narrower.{column_size-within, entries_within}
 
 -- a side put into a box within the one that stood there
 pub set_within : (box : List Side) (j : ℕ) (s : Side) → j < length box → (side_at box j).lower ≤ℤ s.lower → s.lower ≤ℤ s.upper → s.upper ≤ℤ (side_at box j).upper → Filled box → Within (set box j s) box

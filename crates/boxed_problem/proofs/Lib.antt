@@ -9,9 +9,5 @@ pub mod Ordered
 pub mod Optimal
 pub mod PointCounts
 pub mod FixingLaws
-pub mod Halving
+pub mod Narrower
 pub mod Lying
-pub mod RangeLaws
-pub mod Vertex
-pub mod LeastLaws
-pub mod SearchLaws

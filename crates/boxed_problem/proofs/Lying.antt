@@ -1,8 +1,6 @@
 use Rattle.std.proofs.Common.{arith, refl, ap, ◌∙◌, ◌≡◌, ℕ, zero, suc, ◌<◌, ◌≤◌, Bool, true, false, nat_lt, List, [], ◌∷◌, length, ℤ, ◌≤ℤ◌}
 use Rattle.std.proofs.lemmas.Int.{ints}
 use Rattle.boxed_problem.specs.Odometer.{OnSides}
-use Rattle.boxed_problem.specs.Halves.{high_half, low_half}
-use Rattle.boxed_problem.proofs.Halving.{Cut, here, after, filled_cut, middle_within}
 use Rattle.base_words.proofs.Magnitudes.{abs_between}
 use Rattle.boxed_problem.specs.Points.{InBox}
 use Rattle.boxed_problem.specs.Sides.{Filled, Within, corner, no_side, reach, side_at}
@@ -89,35 +87,12 @@ corner_in inner outer w = record {
     corner_long [] = refl
     corner_long (s ∷ ss) = ap suc (corner_long ss)
 
--- a narrower first side, and the same first side
-front_within : (inner outer : Side) (ss : List Side) → outer.lower ≤ℤ inner.lower → inner.upper ≤ℤ outer.upper → Filled (inner ∷ ss) → Within (inner ∷ ss) (outer ∷ ss)
-front_within inner outer ss l u f = record { long = refl; filled = f; lower = lowers; upper = uppers }
-  where
-    lowers : (j : ℕ) → j < length (outer ∷ ss) → (side_at (outer ∷ ss) j).lower ≤ℤ (side_at (inner ∷ ss) j).lower
-    lowers zero m = l
-    lowers (suc j) m = omega (arith, ints)
+-- each column of the box is single
+abbrev pub Single : List Side → Type 0
+Single [] = Unit {0}
+Single (s ∷ ss) = (s.upper ≡ s.lower) × Single ss
 
-    uppers : (j : ℕ) → j < length (outer ∷ ss) → (side_at (inner ∷ ss) j).upper ≤ℤ (side_at (outer ∷ ss) j).upper
-    uppers zero m = u
-    uppers (suc j) m = omega (arith, ints)
-
-behind_within : (s : Side) (inner outer : List Side) → s.lower ≤ℤ s.upper → Within inner outer → Within (s ∷ inner) (s ∷ outer)
-behind_within s inner outer f w = record { long = ap suc w.long; filled = (f, w.filled); lower = lowers; upper = uppers }
-  where
-    lowers : (j : ℕ) → j < length (s ∷ outer) → (side_at (s ∷ outer) j).lower ≤ℤ (side_at (s ∷ inner) j).lower
-    lowers zero m = omega (arith, ints)
-    lowers (suc j) m = w.lower j (omega arith)
-
-    uppers : (j : ℕ) → j < length (s ∷ outer) → (side_at (s ∷ inner) j).upper ≤ℤ (side_at (s ∷ outer) j).upper
-    uppers zero m = omega (arith, ints)
-    uppers (suc j) m = w.upper j (omega arith)
-
--- the halves of a box lie in it
-pub cut_within : {box low high : List Side} → Cut box low high → Filled box → Within low box × Within high box
-cut_within (here s ss l) f =
-    let m = middle_within s l in
-    let g = filled_cut (here s ss l) f in
-    (front_within (low_half s) s ss (omega (arith, ints)) (omega (arith, ints, m.1)) g.0, front_within (high_half s) s ss (omega (arith, ints, m.0)) (omega (arith, ints)) g.1)
-cut_within (after s {ss = ss} {low = low} {high = high} q c) f =
-    let r = cut_within c f.1 in
-    (behind_within s low ss f.0 r.0, behind_within s high ss f.0 r.1)
+pub single_at : (box : List Side) → Single box → (j : ℕ) → (side_at box j).upper ≡ (side_at box j).lower
+single_at [] h j = refl
+single_at (s ∷ ss) h zero = h.0
+single_at (s ∷ ss) h (suc j) = single_at ss h.1 j

@@ -1,16 +1,12 @@
 pub mod Data
 pub mod Facts
 pub mod Fixing
-pub mod Halves
-pub mod Leasts
 pub mod Objective
 pub mod Odometer
 pub mod Optimum
 pub mod Parts
-pub mod PlainSearch
 pub mod Points
 pub mod PriceFit
-pub mod Ranges
 pub mod Rows
 pub mod Sides
 pub use Rattle.base_words.specs.Sums

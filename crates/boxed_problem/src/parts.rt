@@ -37,10 +37,3 @@ pub struct Prices {
     pub scale: i128,
     pub values: List<i128>,
 }
-
-/// The numbers from `low` to `high`, both among them.
-#[derive(Clone, Copy, Debug, Drop, PartialEq, Eq)]
-pub struct Range {
-    pub low: i128,
-    pub high: i128,
-}

@@ -3,24 +3,24 @@ use Rattle.std.proofs.Common.{arith, refl, ap, sym, ◌∙◌, ◌≡◌, ℕ, z
 use Rattle.std.proofs.lemmas.Int.{ints}
 use Rattle.std.specs.List.{AllByRecursion, filter}
 use Rattle.boxed_problem.specs.Data.{Problem}
-use Rattle.boxed_problem.specs.Halves.{Halves, halves}
-use Rattle.boxed_problem.specs.Leasts.{least_value}
+use Rattle.branch_bound.specs.Halves.{Halves, halves}
+use Rattle.safe_bound.specs.Leasts.{least_value}
 use Rattle.boxed_problem.specs.Objective.{value_of}
 use Rattle.boxed_problem.specs.Odometer.{OnSides}
 use Rattle.boxed_problem.specs.Optimum.{IsBest, best_of, first_least, improves, lower_of, meets_all, priced}
-use Rattle.boxed_problem.specs.PlainSearch.{Progress, go_on, is_left, nothing_yet, ref_count, search, search_all, width, with_opened}
+use Rattle.branch_bound.specs.PlainSearch.{Progress, go_on, is_left, nothing_yet, ref_count, search, search_all, width, with_opened}
 use Rattle.boxed_problem.specs.Points.{box_points}
-use Rattle.boxed_problem.specs.Ranges.{misses_one}
+use Rattle.propagate.specs.Ranges.{misses_one}
 use Rattle.boxed_problem.specs.Sides.{Filled}
 use Rattle.boxed_problem.specs.declared.parts.Best.{Best}
 use Rattle.boxed_problem.specs.declared.parts.Side.{Side}
 use Rattle.base_words.proofs.Comparisons.{above_from_test, below_from_test, left_fails, right_fails, test_from_below, test_from_above}
-use Rattle.boxed_problem.proofs.Halving.{cut_of, filled_cut, narrower}
+use Rattle.branch_bound.proofs.HalfLaws.{cut_of, filled_cut, narrower}
 use Rattle.boxed_problem.proofs.Least.{best_after, best_after-is, merged}
 use Rattle.boxed_problem.proofs.Listing.{on_in}
 use Rattle.boxed_problem.proofs.Members.{listed_on}
 use Rattle.boxed_problem.proofs.Optimal.{best_is}
-use Rattle.boxed_problem.proofs.SearchLaws.{search_all-opens, search_all-push, search_best, search_finds, search_left, search_on, search_opens_one}
+use Rattle.branch_bound.proofs.SearchLaws.{search_all-opens, search_all-push, search_best, search_finds, search_left, search_on, search_opens_one}
 use Rattle.branch_bound.specs.Narrowing.{IsBar, NoneBelow, NotPast}
 
 -- beside a search that began with nothing, one that began with something to beat: its best is the other's where that is below

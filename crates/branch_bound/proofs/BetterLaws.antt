@@ -1,33 +1,36 @@
--- Sides narrowed by what the best so far leaves.
-use Rattle.std.proofs.Common.{arith, refl, ap, sym, subst, ◌∙◌, ◌≡◌, ℕ, zero, suc, ◌*◌, ◌^◌, ◌<◌, ◌≤◌, Bool, true, false, not, ◌||◌, nat_lt, List, length, slice_set, ℤ, pos, ◌+ℤ◌, ◌-ℤ◌, ◌*ℤ◌, ◌≤ℤ◌, Option, unsigned_abs}
-use Rattle.std.proofs.lemmas.Int.{ints, clamps}
-use Rattle.boxed_problem.specs.Data.{Problem, problem_of}
-use Rattle.boxed_problem.specs.Leasts.{least_on, least_part, least_value}
-use Rattle.boxed_problem.specs.Objective.{curve, value_of, value_part}
-use Rattle.boxed_problem.specs.Optimum.{improves}
+-- Sides narrowed by what the best so far leaves, under a reduced objective.
+use Rattle.std.proofs.Common.{arith, refl, ap, sym, subst, ◌∙◌, ◌≡◌, ℕ, zero, suc, ◌*◌, ◌^◌, ◌<◌, ◌≤◌, Bool, true, false, nat_lt, List, length, slice_set, ℤ, pos, negsuc, ◌+ℤ◌, ◌-ℤ◌, ◌*ℤ◌, ◌≤ℤ◌, ◌<ℤ◌, Option, Some, unsigned_abs}
+use Rattle.std.proofs.lemmas.Int.{ints}
+use Rattle.boxed_problem.specs.Data.{Problem}
+use Rattle.safe_bound.specs.Leasts.{least_part}
+use Rattle.boxed_problem.specs.Facts.{column_size}
+use Rattle.boxed_problem.specs.Objective.{value_of, value_part}
+use Rattle.boxed_problem.specs.Optimum.{improves, meets_all}
 use Rattle.boxed_problem.specs.Points.{InBox}
-use Rattle.boxed_problem.specs.Ranges.{misses_one}
-use Rattle.boxed_problem.specs.Sides.{Within, reach, side_at}
+use Rattle.boxed_problem.specs.Sides.{Within, side_at}
 use Rattle.base_words.specs.Sums.{number_at, sum_below}
 use Rattle.boxed_problem.specs.declared.parts.Best.{Best}
 use Rattle.boxed_problem.specs.declared.parts.Side.{Side}
-use Rattle.boxed_problem.specs.declared.problem.Boxed.{Boxed}
 use Rattle.boxed_problem.proofs.FixingLaws.{set_within}
-use Rattle.boxed_problem.proofs.LeastLaws.{column_size-le, column_size-within, least_on-holds, least_on-le, sum_below-order}
+use Rattle.boxed_problem.proofs.Narrower.{column_size-le, column_size-within}
+use Rattle.safe_bound.proofs.LeastLaws.{least_on-holds, least_on-le, sum_below-order}
 use Rattle.boxed_problem.proofs.Listing.{in_on}
 use Rattle.boxed_problem.proofs.Lying.{Lies, filled_at, on_lies, within_at, within_self, within_trans}
-use Rattle.base_words.proofs.Products.{zero_times}
-use Rattle.branch_bound.specs.Bettering.{IsSlack, Narrows}
+use Rattle.base_words.proofs.Comparisons.{below_from_test}
+use Rattle.base_words.proofs.Products.{times_order}
+use Rattle.branch_bound.specs.Bettering.{IsMost, IsSlack, KeepsSlack, Narrows}
 use Rattle.branch_bound.specs.Narrowing.{NoneBelow}
-use Rattle.propagate.specs.Ranged.{low_end}
 use Rattle.propagate.specs.SparseParts.{IsOf}
-use Rattle.propagate.specs.Tightening.{HoldsNone, HoldsSame, KeepsAbove}
+use Rattle.propagate.specs.Tightening.{HoldsNone, HoldsSame}
 use Rattle.propagate.specs.Trails.{KeepsAllMarks}
 use Rattle.propagate.specs.declared.sparse.Sparse.{Sparse}
 use Rattle.propagate.specs.declared.trail.Trail.{Trail}
 use Rattle.propagate.proofs.Backing.{all_marks_trans, marks_same}
 use Rattle.propagate.proofs.Setting.{in_set}
-use Rattle.branch_bound.proofs.Steps.{keeps_trans, left_none}
+use Rattle.branch_bound.proofs.Descending.{in_wider}
+use Rattle.branch_bound.proofs.Steps.{keeps_trans}
+use Rattle.safe_bound.specs.ReducedOf.{IsUnder, reduced_total}
+use Rattle.safe_bound.specs.declared.reduced.Reduced.{Reduced}
 use Rattle.propagate.proofs.TightLaws.{trail_filled, trail_within}
 
 pub narrows_self : (b : Problem) (best : Option Best) (t : Trail) → Narrows b best t t
@@ -61,78 +64,81 @@ one_below (suc n) f g h j l = by_place (nat_lt j n) refl (λ k. one_below n f g 
         let q = ap g k in
         omega (arith, ints, s, p, q)
 
--- what a column adds at a point is at most the slack above its least
-column_slack : (b : Problem) (best : Option Best) (sides : List Side) (x : List ℤ) (j : ℕ) (slack : ℤ) → j < length b.columns → Lies sides x → improves (value_of b x) best ≡ true → IsSlack best (least_value b sides) slack →
-    (value_part b.line b.square x j -ℤ least_part b.line b.square sides j) ≤ℤ slack
-column_slack b best sides x j slack l lies d s =
-    let one' = one_below (length b.columns) (least_part b.line b.square sides) (value_part b.line b.square x)
-    (λ k. let p = lies k in least_on-le (number_at b.line k) (number_at b.square k) (side_at sides k) (number_at x k) p.0 p.1) j l in
-    let most = s.most (value_of b x) d in
-    omega (arith, ints, one', most)
-
--- with no square part the least is at one of the ends
-line_least : (line : ℤ) (s : Side) → s.lower ≤ℤ s.upper → least_on line (pos 0) s ≤ℤ low_end line s
-line_least line s f =
-    let a = least_on-le line (pos 0) s s.lower (omega (arith, ints)) f in
-    let b = least_on-le line (pos 0) s s.upper f (omega (arith, ints)) in
-    let za = zero_times (s.lower *ℤ s.lower) in
-    let zb = zero_times (s.upper *ℤ s.upper) in
-    omega (arith, ints, clamps, a, b, za, zb)
-
-line_slack : (b : Problem) (best : Option Best) (sides : List Side) (x : List ℤ) (j : ℕ) (slack : ℤ) → j < length b.columns → Lies sides x → (side_at sides j).lower ≤ℤ (side_at sides j).upper → number_at b.square j ≡ pos 0 → improves (value_of b x) best ≡ true →
-    IsSlack best (least_value b sides) slack → ((number_at b.line j *ℤ number_at x j) -ℤ low_end (number_at b.line j) (side_at sides j)) ≤ℤ slack
-line_slack b best sides x j slack l lies f z d s =
-    let c = column_slack b best sides x j slack l lies d s in
-    let least = line_least (number_at b.line j) (side_at sides j) f in
-    let e = ap (λ q. least_on (number_at b.line j) q (side_at sides j)) z in
-    let v = ap (λ q. curve (number_at b.line j) q (number_at x j)) z in
-    let zx = zero_times (number_at x j *ℤ number_at x j) in
-    omega (arith, ints, c, least, e, v, zx)
+-- what a column adds to the reduced objective at a point is at most the slack above its least
+column_slack : (b : Problem) (r : Reduced) (best : Option Best) (sides : List Side) (x : List ℤ) (j : ℕ) (slack : ℤ) → IsUnder b r → j < length r.columns → InBox b.columns x → meets_all b x ≡ true → Lies sides x →
+    improves (value_of b x) best ≡ true → IsSlack b best r.scale (reduced_total r sides) slack → (value_part r.line r.square x j -ℤ least_part r.line r.square sides j) ≤ℤ slack
+column_slack b r best sides x j slack u l i m lies d s =
+    let one' = one_below (length r.columns) (least_part r.line r.square sides) (value_part r.line r.square x)
+    (λ k. let p = lies k in least_on-le (number_at r.line k) (number_at r.square k) (side_at sides k) (number_at x k) p.0 p.1) j l in
+    let most = s.most x i d in
+    omega (arith, ints, one', most, u.below x i m)
 
 -- a column cut by the slack
-pub column_narrows : (b : Problem) (best : Option Best) (m : Sparse) (old new : Trail) (j : ℕ) (slack : ℤ) (s : Side) → IsOf b m → m ≡ old.sparse.value → j < length b.columns → number_at b.square j ≡ pos 0 → IsSlack best (least_value b old.sides) slack →
-    KeepsAbove (number_at b.line j) (side_at old.sides j) slack s → new.sides ≡ slice_set old.sides j s → KeepsAllMarks old new → Narrows b best old new
-column_narrows b best m old new j slack s o same l z h k e marks =
+pub column_narrows : (b : Problem) (r : Reduced) (best : Option Best) (m : Sparse) (old new : Trail) (j : ℕ) (slack : ℤ) (s : Side) → IsUnder b r → IsOf b m → m ≡ old.sparse.value → j < length r.columns →
+    IsSlack b best r.scale (reduced_total r old.sides) slack → KeepsSlack (number_at r.line j) (number_at r.square j) (side_at old.sides j) slack s → new.sides ≡ slice_set old.sides j s → KeepsAllMarks old new → Narrows b best old new
+column_narrows b r best m old new j slack s u o same l h k e marks =
     let w = trail_within b m old same o in
-    let n : j < length old.sides = omega (arith, l, w.long) in
+    let n : j < length old.sides = omega (arith, l, w.long, ap length u.columns) in
     record {
       within = subst (λ box. Within box old.sides) (sym e) (set_within old.sides j s n k.inside.lower k.inside.filled k.inside.upper (trail_filled old));
       keeps = λ x i met d.
           let lies = on_lies old.sides x (in_on old.sides x i) in
-          let slackened = line_slack b best old.sides x j slack l lies (filled_at old.sides (trail_filled old) j) z d h in
+          let slackened = column_slack b r best old.sides x j slack u l (in_wider old.sides b.columns x w i) met lies d h in
           let kept = k.keeps (number_at x j) (i.lower j n) (i.upper j n) slackened in
           subst (λ box. InBox box x) (sym e) (in_set old.sides j s x n kept.0 kept.1 i);
       marks = marks;
     }
 
--- narrower sides have no lower least
-pub least_rises : (b : Problem) (inner outer : List Side) → Within inner outer → least_value b outer ≤ℤ least_value b inner
-least_rises b inner outer w =
-    let r = sum_below-order (length b.columns) (least_part b.line b.square outer) (least_part b.line b.square inner)
+-- narrower sides have no lower total
+pub total_rises : (r : Reduced) (inner outer : List Side) → Within inner outer → reduced_total r outer ≤ℤ reduced_total r inner
+total_rises r inner outer w =
+    let p = sum_below-order (length r.columns) (least_part r.line r.square outer) (least_part r.line r.square inner)
     (λ j. let a = within_at inner outer w j in
-    least_on-holds (λ z. least_part b.line b.square outer j ≤ℤ z) (number_at b.line j) (number_at b.square j) (side_at inner j) (filled_at inner w.filled j)
-    (λ x l u. least_on-le (number_at b.line j) (number_at b.square j) (side_at outer j) x (omega (arith, ints, a.0, l)) (omega (arith, ints, a.1, u)))) in
-    omega (arith, ints, r)
+    least_on-holds (λ z. least_part r.line r.square outer j ≤ℤ z) (number_at r.line j) (number_at r.square j) (side_at inner j) (filled_at inner w.filled j)
+    (λ x l u. least_on-le (number_at r.line j) (number_at r.square j) (side_at outer j) x (omega (arith, ints, a.0, l)) (omega (arith, ints, a.1, u)))) in
+    omega (arith, ints, p)
 
 -- a slack stays one over narrower sides
-pub slack_stays : (b : Problem) (best : Option Best) (inner outer : List Side) (slack : ℤ) → Within inner outer → IsSlack best (least_value b outer) slack → IsSlack best (least_value b inner) slack
-slack_stays b best inner outer slack w s = record {
+pub slack_stays : (b : Problem) (r : Reduced) (best : Option Best) (inner outer : List Side) (slack : ℤ) → Within inner outer → IsSlack b best r.scale (reduced_total r outer) slack → IsSlack b best r.scale (reduced_total r inner) slack
+slack_stays b r best inner outer slack w s = record {
   least_slack = s.least_slack;
-  most = λ v d. let r = least_rises b inner outer w in let m = s.most v d in omega (arith, ints, r, m);
+  most = λ x i d. let p = total_rises r inner outer w in let m = s.most x i d in omega (arith, ints, p, m);
 }
 
--- where the least isn't below the best nothing is
-pub least_none : (b : Problem) (best : Option Best) (sides : List Side) → improves (least_value b sides) best ≡ false → NoneBelow b best sides
-least_none b best sides e = left_none b best sides (second (misses_one (length b.rows) b.rows b.entries sides) (not (improves (least_value b sides) best)) (ap not e))
-  where
-    second : (p q : Bool) → q ≡ true → (p || q) ≡ true
-    second true q h = refl
-    second false q h = h
+-- what is left between the most and a total is a slack
+pub slack_is : (b : Problem) (best : Option Best) (scale total most slack : ℤ) → IsMost b best scale most → total ≤ℤ most → slack ≡ (most -ℤ total) → IsSlack b best scale total slack
+slack_is b best scale total most slack h l e = record { least_slack = omega (arith, ints, e, l); most = λ x i d. let p = h x i d in omega (arith, ints, e, p) }
 
--- a column's line over its side fits
-pub line_fits : (p : Boxed) (m : Sparse) (t : Trail) (j : ℕ) → IsOf (problem_of p) m → m ≡ t.sparse.value → j < length p.columns → unsigned_abs (number_at p.line j) * reach (side_at t.sides j) ≤ 2 ^ 122
-line_fits p m t j o same l =
-    let w = trail_within (problem_of p) m t same o in
-    let inner = column_size-within t.sides p.columns p.line p.square j w in
-    let outer = column_size-le p.columns p.constant p.line p.square j l in
-    omega (arith, inner, outer, p.facts.value_fits)
+-- a value below the best is at most one less
+pub most_is : (b : Problem) (best : Best) (scale most : ℤ) → pos 1 ≤ℤ scale → most ≡ (scale *ℤ (best.value -ℤ pos 1)) → IsMost b (Some best) scale most
+most_is b best (pos n) most p e x i d =
+    let l = below_from_test (value_of b x) best.value d in
+    let o = times_order n (value_of b x) (best.value -ℤ pos 1) (omega (arith, ints, l)) in
+    omega (arith, ints, o, e)
+most_is b best (negsuc n) most p e x i d = absurd (omega (arith, ints))
+
+-- where the total is above the most nothing is below the best
+pub total_none : (b : Problem) (r : Reduced) (best : Option Best) (sides : List Side) (most : ℤ) → IsUnder b r → Within sides b.columns → IsMost b best r.scale most → most <ℤ reduced_total r sides → NoneBelow b best sides
+total_none b r best sides most u w h l x i m = by_test (improves (value_of b x) best) refl
+  where
+    by_test : (t : Bool) → improves (value_of b x) best ≡ t → t ≡ false
+    by_test true d =
+        let lies = on_lies sides x (in_on sides x i) in
+        let p = sum_below-order (length r.columns) (least_part r.line r.square sides) (value_part r.line r.square x)
+        (λ j. let k = lies j in least_on-le (number_at r.line j) (number_at r.square j) (side_at sides j) (number_at x j) k.0 k.1) in
+        let wide = in_wider sides b.columns x w i in
+        let q = u.below x wide m in
+        let o = h x wide d in
+        absurd (omega (arith, ints, p, q, o))
+    by_test false d = refl
+
+-- what a column adds over its side fits
+pub column_fits : (r : Reduced) (sides : List Side) (j : ℕ) → Within sides r.columns → j < length r.columns → column_size sides r.line r.square j ≤ 2 ^ 125
+column_fits r sides j w l =
+    let inner = column_size-within sides r.columns r.line r.square j w in
+    let outer = column_size-le r.columns r.constant r.line r.square j l in
+    omega (arith, inner, outer, r.facts.fits)
+
+-- the sides of a trail lie in those of a reduced problem
+pub reduced_within : (b : Problem) (r : Reduced) (m : Sparse) (t : Trail) → IsUnder b r → IsOf b m → m ≡ t.sparse.value → Within t.sides r.columns
+reduced_within b r m t u o same = subst (λ box. Within t.sides box) (sym u.columns) (trail_within b m t same o)

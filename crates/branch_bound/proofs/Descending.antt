@@ -4,14 +4,14 @@ use Rattle.std.proofs.lemmas.Int.{ints, clamps}
 use Rattle.std.specs.Int.{int_max, int_min}
 use Rattle.boxed_problem.specs.Data.{Problem}
 use Rattle.boxed_problem.specs.Facts.{limits_at}
-use Rattle.boxed_problem.specs.Halves.{Halves, halves}
-use Rattle.boxed_problem.specs.Leasts.{least_part, least_value}
+use Rattle.branch_bound.specs.Halves.{Halves, halves}
+use Rattle.safe_bound.specs.Leasts.{least_part, least_value}
 use Rattle.boxed_problem.specs.Objective.{value_of}
 use Rattle.boxed_problem.specs.Odometer.{OnSides}
 use Rattle.boxed_problem.specs.Optimum.{improves}
-use Rattle.boxed_problem.specs.PlainSearch.{Progress, is_left, search, with_opened}
+use Rattle.branch_bound.specs.PlainSearch.{Progress, is_left, search, with_opened}
 use Rattle.boxed_problem.specs.Points.{InBox, box_points}
-use Rattle.boxed_problem.specs.Ranges.{high_activity, high_part, low_activity, low_part, misses, misses_one}
+use Rattle.propagate.specs.Ranges.{high_activity, high_part, low_activity, low_part, misses, misses_one}
 use Rattle.boxed_problem.specs.Rows.{is_above, is_below}
 use Rattle.boxed_problem.specs.Sides.{Filled, Within, side_at}
 use Rattle.base_words.specs.Sums.{number_at}
@@ -20,15 +20,16 @@ use Rattle.boxed_problem.specs.declared.parts.Entry.{Entry}
 use Rattle.boxed_problem.specs.declared.parts.Limits.{Limits}
 use Rattle.boxed_problem.specs.declared.parts.Side.{Side}
 use Rattle.base_words.proofs.Comparisons.{above_from_test, both, both_left, both_right, most_from_test, test_from_above, test_from_most}
-use Rattle.boxed_problem.proofs.Halving.{Cut, after, cut_of, filled_cut, here}
+use Rattle.branch_bound.proofs.HalfLaws.{Cut, after, cut_of, filled_cut, here}
 use Rattle.boxed_problem.proofs.Least.{best_after}
-use Rattle.boxed_problem.proofs.LeastLaws.{least_on-holds, least_on-le, sum_below-order}
+use Rattle.safe_bound.proofs.LeastLaws.{least_on-holds, least_on-le, sum_below-order}
 use Rattle.boxed_problem.proofs.Listing.{in_on}
-use Rattle.boxed_problem.proofs.Lying.{cut_within, filled_at, within_at, within_self, within_trans}
+use Rattle.branch_bound.proofs.HalfLaws.{cut_within}
+use Rattle.boxed_problem.proofs.Lying.{filled_at, within_at, within_self, within_trans}
 use Rattle.base_words.proofs.Products.{times_between}
-use Rattle.boxed_problem.proofs.RangeLaws.{either_left, either_right}
+use Rattle.propagate.proofs.RangeLaws.{either_left, either_right}
 use Rattle.propagate.proofs.Widening.{high_falls, low_rises}
-use Rattle.boxed_problem.proofs.SearchLaws.{search_best, search_on}
+use Rattle.branch_bound.proofs.SearchLaws.{search_best, search_on}
 use Rattle.branch_bound.specs.Narrowing.{Descends, KeepsBetter, NoneBelow, NotPast}
 use Rattle.branch_bound.proofs.Ahead.{below_after, none_past, not_past-search, not_past-trans}
 

@@ -2,9 +2,13 @@ pub mod Ahead
 pub mod Bars
 pub mod BetterLaws
 pub mod Cutting
+pub mod CurveCuts
 pub mod Descending
 pub mod FrameLaws
+pub mod HalfLaws
 pub mod Opening
+pub mod SearchLaws
 pub mod Stack
 pub mod Steps
 pub mod Trees
+pub mod Unpriced

@@ -2,15 +2,15 @@
 use Rattle.std.proofs.Common.{arith, ◌-◌, refl, ap, sym, subst, ◌∙◌, ◌≡◌, ℕ, ◌+◌, ◌<◌, false, List, [], ◌∷◌, ◌++◌, length, Option, Some, None}
 use Rattle.std.specs.List.{AllByRecursion}
 use Rattle.boxed_problem.specs.Data.{Problem}
-use Rattle.boxed_problem.specs.Halves.{Halves, halves, high_half, low_half}
+use Rattle.branch_bound.specs.Halves.{Halves, halves, high_half, low_half}
 use Rattle.boxed_problem.specs.Optimum.{priced}
-use Rattle.boxed_problem.specs.PlainSearch.{Progress, is_left, nothing_yet, ref_count, search, search_all}
+use Rattle.branch_bound.specs.PlainSearch.{Progress, is_left, nothing_yet, ref_count, search, search_all}
 use Rattle.boxed_problem.specs.Sides.{corner}
 use Rattle.boxed_problem.specs.declared.parts.Best.{Best}
 use Rattle.boxed_problem.specs.declared.parts.Side.{Side}
-use Rattle.boxed_problem.proofs.Halving.{single_of}
+use Rattle.branch_bound.proofs.HalfLaws.{single_of}
 use Rattle.boxed_problem.proofs.Lying.{within_trans}
-use Rattle.boxed_problem.proofs.SearchLaws.{search_all-push}
+use Rattle.branch_bound.proofs.SearchLaws.{search_all-push}
 use Rattle.branch_bound.specs.Frames.{Chain, IsFrame, IsHalved, IsOpen, IsReached, IsStack, IsStep, Node, SingleTo, box_of, boxes_of, node_of, tree_box}
 use Rattle.branch_bound.specs.Narrowing.{Descends, Falls, IsFound, NotPast}
 use Rattle.propagate.specs.Trails.{KeepsMarks, sides_at}

@@ -1,6 +1,6 @@
 use Rattle.std.proofs.Common.{arith, refl, ap, ◌∙◌, ◌≡◌, ℕ, zero, suc, ◌<◌, List, [], ◌∷◌, ◌++◌, length, ◌≤ℤ◌, ◌<ℤ◌, Some, None, if◌then◌else◌}
 use Rattle.std.specs.List.{AllByRecursion}
-use Rattle.boxed_problem.specs.Halves.{behind, halves, high_half, low_half}
+use Rattle.branch_bound.specs.Halves.{behind, halves, high_half, low_half}
 use Rattle.boxed_problem.specs.Sides.{side_at}
 use Rattle.boxed_problem.specs.declared.parts.Side.{Side}
 use Rattle.base_words.proofs.Comparisons.{test_from_above, test_from_below}

@@ -2,24 +2,24 @@
 use Rattle.std.proofs.Common.{arith, refl, ap, sym, subst, ◌∙◌, ◌≡◌, ℕ, ◌+◌, Bool, true, false, not, ◌||◌, List, length, ℤ, ◌≤ℤ◌, ◌<ℤ◌, Option, Some, None}
 use Rattle.std.proofs.lemmas.Int.{ints}
 use Rattle.boxed_problem.specs.Data.{Problem}
-use Rattle.boxed_problem.specs.Halves.{Halves, halves}
-use Rattle.boxed_problem.specs.Leasts.{least_value}
+use Rattle.branch_bound.specs.Halves.{Halves, halves}
+use Rattle.safe_bound.specs.Leasts.{least_value}
 use Rattle.boxed_problem.specs.Objective.{value_of}
 use Rattle.boxed_problem.specs.Optimum.{improves, priced}
-use Rattle.boxed_problem.specs.PlainSearch.{Progress, is_left, search, with_opened}
-use Rattle.boxed_problem.specs.Ranges.{misses_one}
+use Rattle.branch_bound.specs.PlainSearch.{Progress, is_left, search, with_opened}
+use Rattle.propagate.specs.Ranges.{misses_one}
 use Rattle.boxed_problem.specs.Sides.{Within, corner}
 use Rattle.boxed_problem.specs.declared.parts.Best.{Best}
 use Rattle.boxed_problem.specs.declared.parts.Side.{Side}
 use Rattle.base_words.proofs.Comparisons.{above_from_test, below_from_test, test_from_below}
-use Rattle.boxed_problem.proofs.Halving.{Single}
-use Rattle.boxed_problem.proofs.LeastLaws.{single_least}
+use Rattle.boxed_problem.proofs.Lying.{Single}
+use Rattle.safe_bound.proofs.LeastLaws.{single_least}
 use Rattle.boxed_problem.proofs.Listing.{corner_on, in_on}
 use Rattle.boxed_problem.proofs.Lying.{corner_in, on_lies, within_trans}
-use Rattle.boxed_problem.proofs.RangeLaws.{either_left, either_right, rows_not_missed, single_met}
+use Rattle.propagate.proofs.RangeLaws.{either_left, either_right, rows_not_missed, single_met}
 use Rattle.boxed_problem.proofs.RowTests.{feasible_from}
-use Rattle.boxed_problem.proofs.LeastLaws.{least_holds}
-use Rattle.boxed_problem.proofs.SearchLaws.{search_on}
+use Rattle.safe_bound.proofs.LeastLaws.{least_holds}
+use Rattle.branch_bound.proofs.SearchLaws.{search_on}
 use Rattle.branch_bound.specs.Narrowing.{Descends, Falls, IsFound, KeepsBetter, NoneBelow, NotPast}
 use Rattle.branch_bound.specs.Frames.{IsOpen, Node}
 use Rattle.branch_bound.proofs.Descending.{descends_holds, descends_past, descends_within, keeps_within, not_left_wider}

@@ -2,14 +2,15 @@
 use Rattle.std.proofs.Common.{arith, refl, ap, sym, subst, inl, inr, ◌∙◌, ◌≡◌, ◌⊎◌, ℕ, zero, suc, ◌+◌, ◌≤◌, ◌<◌, List, [], ◌∷◌, length, slice_set, ℤ, ◌≤ℤ◌, ◌<ℤ◌, Option, Some, if◌then◌else◌}
 use Rattle.std.proofs.lemmas.Int.{ints, clamps}
 use Rattle.boxed_problem.specs.Data.{Problem}
-use Rattle.boxed_problem.specs.Halves.{behind, halves, high_half, low_half, middle}
-use Rattle.boxed_problem.specs.PlainSearch.{width}
+use Rattle.branch_bound.specs.Halves.{behind, halves, high_half, low_half, middle}
+use Rattle.branch_bound.specs.PlainSearch.{width}
 use Rattle.boxed_problem.specs.Sides.{Within, side_at}
 use Rattle.boxed_problem.specs.declared.parts.Best.{Best}
 use Rattle.boxed_problem.specs.declared.parts.Side.{Side}
 use Rattle.base_words.proofs.Comparisons.{test_from_above, test_from_below}
-use Rattle.boxed_problem.proofs.Halving.{cut_of, narrower}
-use Rattle.boxed_problem.proofs.Lying.{cut_within, filled_at, within_at, within_trans}
+use Rattle.branch_bound.proofs.HalfLaws.{cut_of, narrower}
+use Rattle.branch_bound.proofs.HalfLaws.{cut_within}
+use Rattle.boxed_problem.proofs.Lying.{filled_at, within_at, within_trans}
 use Rattle.branch_bound.specs.Frames.{IsOpen, SingleTo, clip, node_of, tree_box}
 use Rattle.branch_bound.specs.Narrowing.{KeepsBetter}
 use Rattle.branch_bound.proofs.Cutting.{keeps_set}

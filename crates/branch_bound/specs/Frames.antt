@@ -2,8 +2,8 @@ use Rattle.std.specs.Prelude.{◌≡◌, ℕ, zero, suc, ◌+◌, ◌-◌, ◌�
 use Rattle.std.specs.Int.{int_max, int_min}
 use Rattle.std.specs.List.{AllByRecursion}
 use Rattle.boxed_problem.specs.Data.{Problem}
-use Rattle.boxed_problem.specs.Halves.{high_half, low_half, middle}
-use Rattle.boxed_problem.specs.PlainSearch.{search}
+use Rattle.branch_bound.specs.Halves.{high_half, low_half, middle}
+use Rattle.branch_bound.specs.PlainSearch.{search}
 use Rattle.boxed_problem.specs.Sides.{Within, side_at}
 use Rattle.boxed_problem.specs.declared.parts.Best.{Best}
 use Rattle.boxed_problem.specs.declared.parts.Side.{Side}

@@ -3,4 +3,7 @@ pub mod Bettering
 pub mod Frames
 pub mod HalvesAt
 pub mod Narrowing
+pub mod Halves
+pub mod PlainSearch
 pub mod PlainStep
+pub mod SmallExample

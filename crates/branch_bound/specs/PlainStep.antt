@@ -1,8 +1,8 @@
 -- the plain search by its own recursion
 use Rattle.std.specs.Prelude.{List, if◌then◌else◌}
 use Rattle.boxed_problem.specs.Data.{Problem}
-use Rattle.boxed_problem.specs.Halves.{halves}
-use Rattle.boxed_problem.specs.PlainSearch.{Progress, go_on, is_left, search, with_opened}
+use Rattle.branch_bound.specs.Halves.{halves}
+use Rattle.branch_bound.specs.PlainSearch.{Progress, go_on, is_left, search, with_opened}
 use Rattle.boxed_problem.specs.declared.parts.Side.{Side}
 
 -- a box is opened, which counts one; and where it isn't left, its only point is taken, or the low half is searched and then the high one

@@ -1,81 +1,105 @@
-ghost use Rattle.std.specs.Prelude.{◌≡◌, ◌<◌, true, false, IfOk, OnOk, MatchOption, length};
+ghost use Rattle.std.specs.Prelude.{◌≡◌, ◌<◌, ◌≤ℤ◌, ◌-ℤ◌, ◌*ℤ◌, pos, true, false, IfOk, IfSome, OnOk, length};
 ghost use Rattle.boxed_problem.specs.Data.{problem_of};
-ghost use Rattle.boxed_problem.specs.Leasts.{least_value};
-ghost use Rattle.boxed_problem.specs.Optimum.{improves};
-ghost use Rattle.branch_bound.specs.Bettering.{IsSlack, Narrows};
+ghost use Rattle.branch_bound.specs.Bettering.{IsMost, IsSlack, Narrows};
 ghost use Rattle.branch_bound.specs.Narrowing.{NoneBelow};
 ghost use Rattle.propagate.specs.SparseParts.{IsOf};
+ghost use Rattle.safe_bound.specs.ReducedOf.{IsUnder, reduced_total};
 
-use boxed_problem::{Best, Boxed, is_better};
-use propagate::{Sparse, Trail, cut_above, replace_side};
+use crate::curving::column_cut;
+use boxed_problem::{Best, Boxed};
+use propagate::{Sparse, Trail, replace_side};
+use safe_bound::{Reduced, total_from};
 use std::alloc::AllocError;
 
-/// How far a value below the best so far may be above the least; none where
-/// there is no best, or the difference is too wide.
-fn slack_left(best: &Option<Best>, least: i128) -> Option<i128>
-    requires { improves least best.now ≡ true }
-    ensures { MatchOption result (Unit {0}) (λ slack. IsSlack best.now least slack) }
+/// The scale times one less than a value, or none where that is too wide.
+fn scaled_below(value: i128, scale: i128) -> Option<i128>
+    ensures { IfSome result (λ most. most ≡ (scale *ℤ (value -ℤ pos 1))) }
 {
+    let below = value.checked_sub(1)?;
+    scale.checked_mul(below)
+}
+
+/// The greatest that the scale times a value below the best so far can be; none
+/// where there is no best, or the number is too wide.
+fn most_below(problem: &Boxed, best: &Option<Best>, scale: i128) -> Option<i128>
+    requires { pos 1 ≤ℤ scale }
+    ensures { IfSome result (λ most. IsMost (problem_of problem.now) best.now scale most) }
+{
+    let _problem = problem;
     let Some(best) = best else {
         return None;
     };
-    let Some(above) = best.value.checked_sub(least) else {
+    let Some(most) = scaled_below(best.value, scale) else {
         return None;
     };
-    Some(above - 1)
+    Some(most)
 }
 
-/// Narrows a column with no square part to the values that a slack of the
-/// objective leaves.
+/// What is left between a number and a total below it, or none where that is
+/// too wide.
+fn slack_above(most: i128, total: i128) -> Option<i128>
+    ensures { IfSome result (λ slack. slack ≡ (most -ℤ total)) }
+{
+    most.checked_sub(total)
+}
+
+/// Narrows a column to the values that a slack above the total leaves.
 fn narrow_column(
     problem: &Boxed,
     sparse: &Sparse,
+    reduced: &Reduced,
     best: &Option<Best>,
     trail: &mut Trail,
     column: usize,
     slack: i128,
 ) -> Result<(), AllocError>
-    requires column { column < length problem.now.columns }
+    requires column { column < length reduced.now.columns }
     requires of { IsOf (problem_of problem.now) sparse.now }
     requires sparse { sparse.now ≡ trail.old.sparse.value }
-    requires slack { IsSlack best.now (least_value (problem_of problem.now) trail.old.sides) slack }
+    requires under { IsUnder (problem_of problem.now) reduced.now }
+    requires slack { IsSlack (problem_of problem.now) best.now reduced.now.scale (reduced_total reduced.now trail.old.sides) slack }
     ensures { OnOk result (Narrows (problem_of problem.now) best.now trail.old trail.new) }
 {
+    let _problem = problem;
     let _best = best;
     let side = trail.sides.as_slice()[column];
     if side.upper <= side.lower {
         return Ok(());
     }
-    if problem.square.as_slice()[column] > 0 {
-        return Ok(());
-    }
-    let cut = cut_above(side, problem.line.as_slice()[column], slack);
+    let line = reduced.line.as_slice()[column];
+    let square = reduced.square.as_slice()[column];
+    let cut = column_cut(line, square, side, slack);
     replace_side(trail, sparse, column, cut)?;
     Ok(())
 }
 
-/// Narrows each column to what a value below the best so far leaves. It
-/// answers false only where the least is not below it.
-pub fn narrow_by_best(
+/// Narrows each column to what a value below the best so far leaves, as far as
+/// a reduced objective tells. It answers false only where it leaves nothing.
+pub fn narrow_by(
     problem: &Boxed,
     sparse: &Sparse,
+    reduced: &Reduced,
     best: &Option<Best>,
     trail: &mut Trail,
 ) -> Result<bool, AllocError>
     requires of { IsOf (problem_of problem.now) sparse.now }
     requires sparse { sparse.now ≡ trail.old.sparse.value }
+    requires under { IsUnder (problem_of problem.now) reduced.now }
     ensures narrows { OnOk result (Narrows (problem_of problem.now) best.now trail.old trail.new) }
     ensures none { IfOk result (λ some. some ≡ false → NoneBelow (problem_of problem.now) best.now trail.new.sides) }
 {
-    let least = problem.least_value(&trail.sides);
-    if !is_better(least, best) {
-        return Ok(false);
-    }
-    let Some(slack) = slack_left(best, least) else {
+    let Some(most) = most_below(problem, best, reduced.scale) else {
         return Ok(true);
     };
-    for column in 0..problem.columns.len() {
-        narrow_column(problem, sparse, best, trail, column, slack)?;
+    let total = total_from(reduced, &trail.sides);
+    if most < total {
+        return Ok(false);
+    }
+    let Some(slack) = slack_above(most, total) else {
+        return Ok(true);
+    };
+    for column in 0..reduced.columns.len() {
+        narrow_column(problem, sparse, reduced, best, trail, column, slack)?;
     }
     Ok(true)
 }

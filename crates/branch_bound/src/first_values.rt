@@ -1,22 +1,31 @@
 ghost use Rattle.std.specs.Prelude.{◌≡◌, ◌<◌, IfOk, OnOk, length};
 ghost use Rattle.std.specs.List.{AllByRecursion};
 ghost use Rattle.boxed_problem.specs.Data.{problem_of};
+ghost use Rattle.branch_bound.specs.Bettering.{IsPriced};
 ghost use Rattle.branch_bound.specs.Frames.{Chain, IsFrame, IsStack};
 ghost use Rattle.propagate.specs.SparseParts.{IsOf};
 ghost use Rattle.branch_bound.specs.Narrowing.{IsFound, IsKnown};
 
 use crate::frames::{Frame, halve, push_two, root};
+use crate::pacing::Pace;
+use crate::pricing::Pricing;
 use crate::stepping::{start, step};
 use boxed_problem::{Best, Boxed};
-use propagate::{Sparse, Trail, sparse_of};
+use propagate::{Sparse, Trail};
 use std::alloc::{AllocError, Global};
 use wide_num::List;
 
-/// Whether a column's values are better the higher they are, as far as its
-/// linear part goes.
-fn prefers_high(problem: &Boxed, column: usize) -> bool {
+/// Whether a column's values seem better the higher they are: by its cost at
+/// the present prices, and where that is 0 by its linear part.
+fn prefers_high(problem: &Boxed, pricing: &Pricing, column: usize) -> bool {
     let line = problem.line.as_slice();
-    column < line.len() && line[column] < 0
+    let reduced = pricing.priced.line.as_slice();
+    let cost = if column < reduced.len() {
+        reduced[column]
+    } else {
+        0
+    };
+    cost < 0 || (cost == 0 && column < line.len() && line[column] < 0)
 }
 
 /// Opens a box, and puts its halves on the stack, the one that seems better on
@@ -25,6 +34,7 @@ fn open_either(
     alloc: Global,
     problem: &Boxed,
     sparse: &Sparse,
+    pricing: &mut Pricing,
     frame: Frame,
     best: &mut Option<Best>,
     trail: &mut Trail,
@@ -37,16 +47,18 @@ fn open_either(
     requires chain { Chain 0 frames.old frame.mark }
     requires frames { AllByRecursion (IsFrame (problem_of problem.now) best.old trail.old) frames.old }
     requires found { IsFound (problem_of problem.now) best.old }
+    requires pricing { IsPriced (problem_of problem.now) pricing.old }
+    ensures pricing { OnOk result (IsPriced (problem_of problem.now) pricing.new) }
     ensures same { OnOk result (trail.new.sparse.value ≡ trail.old.sparse.value) }
     ensures stack { OnOk result (IsStack (problem_of problem.now) best.new trail.new frames.new) }
     ensures found { OnOk result (IsFound (problem_of problem.now) best.new) }
 {
-    let Some(place) = step(alloc, problem, sparse, frame, best, trail)? else {
+    let Some(place) = step(alloc, problem, sparse, pricing, frame, best, trail)? else {
         return Ok(());
     };
     let mark = trail.mark()?;
     let halves = halve(mark, place);
-    if prefers_high(problem, place.column) {
+    if prefers_high(problem, pricing, place.column) {
         push_two(frames, halves.low, halves.high)?;
     } else {
         push_two(frames, halves.high, halves.low)?;
@@ -56,11 +68,20 @@ fn open_either(
 
 /// The value of the best feasible point that a search finds which opens at
 /// most so many boxes, and the half that seems better first.
-pub fn first_value(alloc: Global, problem: &Boxed, tries: u64) -> Result<Option<i128>, AllocError>
-    ensures { IfOk result (λ known. IsKnown (problem_of problem.now) known) }
+pub fn first_value(
+    alloc: Global,
+    problem: &Boxed,
+    sparse: &Sparse,
+    pricing: &mut Pricing,
+    tries: u64,
+) -> Result<Option<i128>, AllocError>
+    requires of { IsOf (problem_of problem.now) sparse.now }
+    requires pricing { IsPriced (problem_of problem.now) pricing.old }
+    ensures pricing { OnOk result (IsPriced (problem_of problem.now) pricing.new) }
+    ensures known { IfOk result (λ known. IsKnown (problem_of problem.now) known) }
 {
-    let sparse = sparse_of(alloc, problem)?;
-    let mut trail = start(alloc, problem, &sparse)?;
+    pricing.pace = Pace::first();
+    let mut trail = start(alloc, problem, sparse)?;
     let mut frames = List::new(alloc);
     frames.push(root(problem.columns.as_slice()))?;
     let mut best = None;
@@ -71,7 +92,8 @@ pub fn first_value(alloc: Global, problem: &Boxed, tries: u64) -> Result<Option<
         open_either(
             alloc,
             problem,
-            &sparse,
+            sparse,
+            pricing,
             frame,
             &mut best,
             &mut trail,

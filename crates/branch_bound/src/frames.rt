@@ -1,5 +1,5 @@
 ghost use Rattle.std.specs.Prelude.{◌≡◌, ◌+◌, ◌<◌, ◌≤◌, ◌≤ℤ◌, ◌<ℤ◌, ◌+ℤ◌, pos, Some, None, OnOk, MatchOption, ◌∷◌, ◌++◌, [], length, slice_set};
-ghost use Rattle.boxed_problem.specs.Halves.{halves, high_half, low_half, middle};
+ghost use Rattle.branch_bound.specs.Halves.{halves, high_half, low_half, middle};
 ghost use Rattle.boxed_problem.specs.Sides.{Within, side_at};
 ghost use Rattle.branch_bound.specs.Frames.{IsReached, SingleTo, clip, tree_box};
 ghost use Rattle.branch_bound.specs.Narrowing.{Descends};

@@ -1,5 +1,5 @@
 ghost use Rattle.std.specs.Prelude.{◌≡◌, ◌<◌, ◌≤ℤ◌, ◌<ℤ◌, Some, None, MatchOption, length};
-ghost use Rattle.boxed_problem.specs.Halves.{halves, middle};
+ghost use Rattle.branch_bound.specs.Halves.{halves, middle};
 ghost use Rattle.boxed_problem.specs.Sides.{side_at};
 ghost use Rattle.branch_bound.specs.HalvesAt.{halves_at};
 

@@ -3,18 +3,21 @@
 #![tactic(auto)]
 
 mod bettering;
+mod curving;
 mod fault;
 mod first_values;
 mod frames;
 mod halving;
 mod leaving;
 mod narrowing;
+mod pacing;
 mod plain_law;
+mod pricing;
 mod searching;
 mod stepping;
 #[cfg(test)]
 mod tests;
 
 pub use fault::SolveFault;
-pub use plain_law::plain_search_is_unbounded;
+pub use plain_law::{plain_counts_of_small, plain_search_is_unbounded};
 pub use searching::solve;

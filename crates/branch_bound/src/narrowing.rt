@@ -1,13 +1,15 @@
 ghost use Rattle.std.specs.Prelude.{◌≡◌, true, false, IfOk, OnOk};
 ghost use Rattle.boxed_problem.specs.Data.{problem_of};
 ghost use Rattle.boxed_problem.specs.Sides.{Within};
-ghost use Rattle.branch_bound.specs.Bettering.{Narrows};
+ghost use Rattle.branch_bound.specs.Bettering.{IsPriced, Narrows};
 ghost use Rattle.branch_bound.specs.Narrowing.{KeepsBetter, NoneBelow};
 ghost use Rattle.propagate.specs.SparseParts.{IsOf};
 ghost use Rattle.propagate.specs.Tightening.{HoldsNone, HoldsSame};
 ghost use Rattle.propagate.specs.Trails.{KeepsAllMarks};
 
-use crate::bettering::narrow_by_best;
+use crate::bettering::narrow_by;
+use crate::halving::first_wide;
+use crate::pricing::{Pricing, raise_prices};
 use boxed_problem::{Best, Boxed};
 use propagate::{Sparse, Trail, TrailFault, tighten_on};
 use std::alloc::AllocError;
@@ -31,16 +33,40 @@ fn narrow_by_rows(problem: &Boxed, sparse: &Sparse, trail: &mut Trail) -> Result
     }
 }
 
-/// Narrows sides, and loses no point on them that meets the rows and is below
-/// the best so far. It answers false only where there is none.
-pub fn narrow(
+/// Narrows sides by the objective and by the present prices. It answers false
+/// only where no point of them that meets the rows is below the best so far.
+fn narrow_by_prices(
     problem: &Boxed,
     sparse: &Sparse,
+    pricing: &Pricing,
     best: &Option<Best>,
     trail: &mut Trail,
 ) -> Result<bool, AllocError>
     requires of { IsOf (problem_of problem.now) sparse.now }
     requires sparse { sparse.now ≡ trail.old.sparse.value }
+    requires pricing { IsPriced (problem_of problem.now) pricing.now }
+    ensures narrows { OnOk result (Narrows (problem_of problem.now) best.now trail.old trail.new) }
+    ensures none { IfOk result (λ some. some ≡ false → NoneBelow (problem_of problem.now) best.now trail.new.sides) }
+{
+    if !narrow_by(problem, sparse, &pricing.plain, best, trail)? {
+        return Ok(false);
+    }
+    let some = narrow_by(problem, sparse, &pricing.priced, best, trail)?;
+    Ok(some)
+}
+
+/// Narrows sides, and loses no point on them that meets the rows and is below
+/// the best so far. It answers false only where there is none.
+fn narrow(
+    problem: &Boxed,
+    sparse: &Sparse,
+    pricing: &Pricing,
+    best: &Option<Best>,
+    trail: &mut Trail,
+) -> Result<bool, AllocError>
+    requires of { IsOf (problem_of problem.now) sparse.now }
+    requires sparse { sparse.now ≡ trail.old.sparse.value }
+    requires pricing { IsPriced (problem_of problem.now) pricing.now }
     ensures narrows { OnOk result (Narrows (problem_of problem.now) best.now trail.old trail.new) }
     ensures none { IfOk result (λ some. some ≡ false → NoneBelow (problem_of problem.now) best.now trail.old.sides) }
 {
@@ -49,7 +75,7 @@ pub fn narrow(
             return Ok(false);
         }
         let before = trail.changes.len();
-        if !narrow_by_best(problem, sparse, best, trail)? {
+        if !narrow_by_prices(problem, sparse, pricing, best, trail)? {
             return Ok(false);
         }
         if trail.changes.len() == before {
@@ -57,4 +83,54 @@ pub fn narrow(
         }
     }
     Ok(true)
+}
+
+/// Improves the prices over the present sides, and narrows these by them.
+fn narrow_again(
+    problem: &Boxed,
+    sparse: &Sparse,
+    pricing: &mut Pricing,
+    best: &Option<Best>,
+    trail: &mut Trail,
+) -> Result<bool, AllocError>
+    requires of { IsOf (problem_of problem.now) sparse.now }
+    requires sparse { sparse.now ≡ trail.old.sparse.value }
+    requires pricing { IsPriced (problem_of problem.now) pricing.old }
+    ensures pricing { OnOk result (IsPriced (problem_of problem.now) pricing.new) }
+    ensures narrows { OnOk result (Narrows (problem_of problem.now) best.now trail.old trail.new) }
+    ensures none { IfOk result (λ some. some ≡ false → NoneBelow (problem_of problem.now) best.now trail.old.sides) }
+{
+    raise_prices(problem, &trail.sides, pricing)?;
+    let before = trail.changes.len();
+    let some = narrow(problem, sparse, pricing, best, trail)?;
+    let useful = !some || trail.changes.len() > before;
+    pricing.pace.note(useful);
+    Ok(some)
+}
+
+/// Narrows sides, improves the prices where it is their turn, and loses no
+/// point on the sides that meets the rows and is below the best so far. It
+/// answers false only where there is none.
+pub fn narrow_priced(
+    problem: &Boxed,
+    sparse: &Sparse,
+    pricing: &mut Pricing,
+    best: &Option<Best>,
+    trail: &mut Trail,
+) -> Result<bool, AllocError>
+    requires of { IsOf (problem_of problem.now) sparse.now }
+    requires sparse { sparse.now ≡ trail.old.sparse.value }
+    requires pricing { IsPriced (problem_of problem.now) pricing.old }
+    ensures pricing { OnOk result (IsPriced (problem_of problem.now) pricing.new) }
+    ensures narrows { OnOk result (Narrows (problem_of problem.now) best.now trail.old trail.new) }
+    ensures none { IfOk result (λ some. some ≡ false → NoneBelow (problem_of problem.now) best.now trail.old.sides) }
+{
+    if !narrow(problem, sparse, pricing, best, trail)? {
+        return Ok(false);
+    }
+    if first_wide(trail.sides.as_slice()).is_none() || !pricing.pace.is_due() {
+        return Ok(true);
+    }
+    let some = narrow_again(problem, sparse, pricing, best, trail)?;
+    Ok(some)
 }

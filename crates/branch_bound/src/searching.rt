@@ -1,8 +1,9 @@
 ghost use Rattle.std.specs.Prelude.{◌≡◌, ◌<◌, ℕ, ◌+◌, OnOk, length};
 ghost use Rattle.std.specs.List.{AllByRecursion};
 ghost use Rattle.boxed_problem.specs.Data.{problem_of};
-ghost use Rattle.boxed_problem.specs.PlainSearch.{search, search_all};
+ghost use Rattle.branch_bound.specs.PlainSearch.{search, search_all};
 ghost use Rattle.branch_bound.specs.Answers.{IsAnswer};
+ghost use Rattle.branch_bound.specs.Bettering.{IsPriced};
 ghost use Rattle.branch_bound.specs.Frames.{Chain, IsFrame, IsStack, box_of, boxes_of};
 ghost use Rattle.propagate.specs.SparseParts.{IsOf};
 ghost use Rattle.branch_bound.specs.Narrowing.{IsBar, IsKnown, NotPast};
@@ -10,6 +11,8 @@ ghost use Rattle.branch_bound.specs.Narrowing.{IsBar, IsKnown, NotPast};
 use crate::fault::SolveFault;
 use crate::first_values::first_value;
 use crate::frames::{Frame, halve, push_two, root};
+use crate::pacing::Pace;
+use crate::pricing::{Pricing, pricing_of};
 use crate::stepping::{start, step};
 use boxed_problem::{Best, Boxed};
 use propagate::{Sparse, Trail, sparse_of};
@@ -24,6 +27,7 @@ fn open(
     alloc: Global,
     problem: &Boxed,
     sparse: &Sparse,
+    pricing: &mut Pricing,
     frame: Frame,
     best: &mut Option<Best>,
     trail: &mut Trail,
@@ -35,11 +39,13 @@ fn open(
     requires sparse { sparse.now ≡ trail.old.sparse.value }
     requires chain { Chain 0 frames.old frame.mark }
     requires frames { AllByRecursion (IsFrame (problem_of problem.now) best.old trail.old) frames.old }
+    requires pricing { IsPriced (problem_of problem.now) pricing.old }
+    ensures pricing { OnOk result (IsPriced (problem_of problem.now) pricing.new) }
     ensures same { OnOk result (trail.new.sparse.value ≡ trail.old.sparse.value) }
     ensures stack { OnOk result (IsStack (problem_of problem.now) best.new trail.new frames.new) }
     ensures search { OnOk result ((n : ℕ) → NotPast (search_all (problem_of problem.now) (boxes_of problem.now.columns trail.new frames.new) (record { best = best.new; opened = n + 1 })) (search_all (problem_of problem.now) (boxes_of problem.now.columns trail.old frames.old) (search (problem_of problem.now) (box_of problem.now.columns trail.old frame) (record { best = best.old; opened = n })))) }
 {
-    let Some(place) = step(alloc, problem, sparse, frame, best, trail)? else {
+    let Some(place) = step(alloc, problem, sparse, pricing, frame, best, trail)? else {
         return Ok(());
     };
     let mark = trail.mark()?;
@@ -64,20 +70,23 @@ fn bar(alloc: Global, problem: &Boxed, known: Option<i128>) -> Option<Best>
     }
 }
 
-/// The least value over the feasible points, and the first point in the order
-/// of columns, smaller values first, that has it. `Infeasible` comes only
-/// where no point is feasible, and `Spent` only where the plain search opens
-/// more boxes than the budget; `opened` is then the budget.
-pub fn solve(alloc: Global, problem: &Boxed, budget: u64) -> Result<Best, SolveFault>
+/// The answer of `solve`, where some feasible point has the known value, if one
+/// is known: the boxes of the halving tree in order, by depth.
+pub fn solve_below(
+    alloc: Global,
+    problem: &Boxed,
+    sparse: &Sparse,
+    pricing: &mut Pricing,
+    known: Option<i128>,
+    budget: u64,
+) -> Result<Best, SolveFault>
+    requires of { IsOf (problem_of problem.now) sparse.now }
+    requires pricing { IsPriced (problem_of problem.now) pricing.old }
+    requires known { IsKnown (problem_of problem.now) known }
     ensures { IsAnswer (problem_of problem.now) budget result }
 {
-    let Ok(known) = first_value(alloc, problem, (budget / 10).min(FIRST_PASS_BOXES)) else {
-        return Err(SolveFault::Memory);
-    };
-    let Ok(sparse) = sparse_of(alloc, problem) else {
-        return Err(SolveFault::Memory);
-    };
-    let Ok(mut trail) = start(alloc, problem, &sparse) else {
+    pricing.pace = Pace::first();
+    let Ok(mut trail) = start(alloc, problem, sparse) else {
         return Err(SolveFault::Memory);
     };
     let mut frames = List::new(alloc);
@@ -93,7 +102,8 @@ pub fn solve(alloc: Global, problem: &Boxed, budget: u64) -> Result<Best, SolveF
         let Ok(()) = open(
             alloc,
             problem,
-            &sparse,
+            sparse,
+            pricing,
             frame,
             &mut best,
             &mut trail,
@@ -107,4 +117,24 @@ pub fn solve(alloc: Global, problem: &Boxed, budget: u64) -> Result<Best, SolveF
         Some(best) => Ok(best),
         None => Err(SolveFault::Infeasible),
     }
+}
+
+/// The least value over the feasible points, and the first point in the order
+/// of columns, smaller values first, that has it. `Infeasible` comes only
+/// where no point is feasible, and `Spent` only where the plain search opens
+/// more boxes than the budget; `opened` is then the budget.
+pub fn solve(alloc: Global, problem: &Boxed, budget: u64) -> Result<Best, SolveFault>
+    ensures { IsAnswer (problem_of problem.now) budget result }
+{
+    let Ok(sparse) = sparse_of(alloc, problem) else {
+        return Err(SolveFault::Memory);
+    };
+    let Ok(mut pricing) = pricing_of(alloc, problem) else {
+        return Err(SolveFault::Memory);
+    };
+    let tries = (budget / 10).min(FIRST_PASS_BOXES);
+    let Ok(known) = first_value(alloc, problem, &sparse, &mut pricing, tries) else {
+        return Err(SolveFault::Memory);
+    };
+    solve_below(alloc, problem, &sparse, &mut pricing, known, budget)
 }

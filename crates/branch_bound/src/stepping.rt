@@ -1,8 +1,9 @@
 ghost use Rattle.std.specs.Prelude.{◌≡◌, ◌+◌, ◌<◌, true, false, IfOk, OnOk, length};
 ghost use Rattle.boxed_problem.specs.Data.{problem_of};
 ghost use Rattle.boxed_problem.specs.Optimum.{priced};
-ghost use Rattle.boxed_problem.specs.PlainSearch.{is_left};
+ghost use Rattle.branch_bound.specs.PlainSearch.{is_left};
 ghost use Rattle.boxed_problem.specs.Sides.{Within, corner};
+ghost use Rattle.branch_bound.specs.Bettering.{IsPriced};
 ghost use Rattle.branch_bound.specs.Frames.{IsFrame, IsRooted, IsStep, box_of, node_of};
 ghost use Rattle.branch_bound.specs.Narrowing.{Falls, IsFound, KeepsBetter, NoneBelow};
 ghost use Rattle.propagate.specs.SparseParts.{IsOf};
@@ -10,7 +11,8 @@ ghost use Rattle.propagate.specs.Trails.{KeepsMarks, sides_at};
 
 use crate::frames::{Frame, Place, enter, walk};
 use crate::leaving::is_left;
-use crate::narrowing::narrow;
+use crate::narrowing::narrow_priced;
+use crate::pricing::Pricing;
 use boxed_problem::{Best, Boxed, Side, first_point};
 use propagate::{Sparse, Trail, trail_of};
 use std::alloc::{AllocError, Global};
@@ -42,6 +44,7 @@ fn only_point(alloc: Global, problem: &Boxed, sides: &List<Side>) -> Result<Best
 fn reach(
     problem: &Boxed,
     sparse: &Sparse,
+    pricing: &mut Pricing,
     best: &Option<Best>,
     trail: &mut Trail,
     frame: Frame,
@@ -50,6 +53,8 @@ fn reach(
     requires mark { frame.mark < length trail.old.marks }
     requires of { IsOf (problem_of problem.now) sparse.now }
     requires sparse { sparse.now ≡ trail.old.sparse.value }
+    requires pricing { IsPriced (problem_of problem.now) pricing.old }
+    ensures pricing { OnOk result (IsPriced (problem_of problem.now) pricing.new) }
     ensures marks { OnOk result (KeepsMarks (frame.mark + 1) trail.old trail.new) }
     ensures within { OnOk result (Within trail.new.sides (node_of problem.now.columns (sides_at trail.old frame.mark) frame).sides) }
     ensures keeps { OnOk result (KeepsBetter (problem_of problem.now) best.now (node_of problem.now.columns (sides_at trail.old frame.mark) frame).sides trail.new.sides) }
@@ -57,7 +62,7 @@ fn reach(
     ensures on { IfOk result (λ on. on ≡ true → is_left (problem_of problem.now) trail.new.sides best.now ≡ false) }
 {
     enter(trail, sparse, frame)?;
-    if !narrow(problem, sparse, best, trail)? {
+    if !narrow_priced(problem, sparse, pricing, best, trail)? {
         return Ok(false);
     }
     Ok(!is_left(problem, sparse, trail, best))
@@ -69,6 +74,7 @@ pub fn step(
     alloc: Global,
     problem: &Boxed,
     sparse: &Sparse,
+    pricing: &mut Pricing,
     frame: Frame,
     best: &mut Option<Best>,
     trail: &mut Trail,
@@ -77,12 +83,14 @@ pub fn step(
     requires mark { frame.mark < length trail.old.marks }
     requires of { IsOf (problem_of problem.now) sparse.now }
     requires sparse { sparse.now ≡ trail.old.sparse.value }
+    requires pricing { IsPriced (problem_of problem.now) pricing.old }
+    ensures pricing { OnOk result (IsPriced (problem_of problem.now) pricing.new) }
     ensures marks { OnOk result (KeepsMarks (frame.mark + 1) trail.old trail.new) }
     ensures falls { OnOk result (Falls best.old best.new) }
     ensures found { OnOk result (IsFound (problem_of problem.now) best.old → IsFound (problem_of problem.now) best.new) }
     ensures step { IfOk result (λ place. IsStep (problem_of problem.now) best.old best.new (box_of problem.now.columns trail.old frame) trail.new.sides place) }
 {
-    if !reach(problem, sparse, best, trail, frame)? {
+    if !reach(problem, sparse, pricing, best, trail, frame)? {
         return Ok(None);
     }
     let columns = problem.columns.as_slice();

@@ -1,5 +1,9 @@
+use crate::first_values::first_value;
+use crate::pricing::pricing_of;
+use crate::searching::solve_below;
 use crate::{SolveFault, solve};
 use boxed_problem::{Boxed, Entry, Limits, Side, scan};
+use propagate::sparse_of;
 use std::alloc::{AllocError, Global};
 use std::process::Abort;
 use std::test::Fail;
@@ -82,6 +86,114 @@ fn takes_the_first_of_equals(rt: HostRuntime) -> Result<(), Fail> {
     let best = solve(rt.alloc(), &tied, 100)?;
     assert_eq!(rt; best.value, 1);
     assert_eq!(rt; best.point.as_slice(), [0, 1].as_slice());
+    Ok(())
+}
+
+/// The problem of these columns, rows, entries and linear parts.
+fn linear(
+    alloc: Global,
+    columns: &[(i64, i64)],
+    line: &[i128],
+    rows: &[Row],
+    entries: &[(u32, u32, i128)],
+) -> Result<Option<Boxed>, AllocError> {
+    let mut sides = List::new(alloc);
+    let mut square = List::new(alloc);
+    for (lower, upper) in columns {
+        let side = Side {
+            lower: *lower,
+            upper: *upper,
+        };
+        sides.push(side)?;
+        square.push(0)?;
+    }
+    let mut limits = List::new(alloc);
+    for (lower, upper) in rows {
+        let limit = Limits {
+            lower: *lower,
+            upper: *upper,
+        };
+        limits.push(limit)?;
+    }
+    let mut cells = List::new(alloc);
+    for (row, column, value) in entries {
+        let cell = Entry {
+            row: *row,
+            column: *column,
+            value: *value,
+        };
+        cells.push(cell)?;
+    }
+    let line = List::from_slice(alloc, line)?;
+    Ok(Boxed::new(sides, limits, cells, 0, line, square))
+}
+
+/// What a farmer buys and sells after a harvest: wheat, corn and beets of three
+/// fields, with so many tenths of a ton, and tons of beets, for each acre.
+fn farm(alloc: Global, wheat: i128, corn: i128, beets: i128) -> Result<Option<Boxed>, AllocError> {
+    let much = (0, 10_000);
+    let columns = [
+        (170, 170),
+        (80, 80),
+        (250, 250),
+        much,
+        much,
+        much,
+        much,
+        (0, 6_000),
+        much,
+    ];
+    let line = [150, 230, 260, 238, 210, -170, -150, -36, -10];
+    let rows = [
+        (None, Some(500)),
+        (Some(2_000), None),
+        (Some(2_400), None),
+        (Some(0), None),
+    ];
+    let entries = [
+        (0, 0, 1),
+        (1, 0, wheat),
+        (0, 1, 1),
+        (2, 1, corn),
+        (0, 2, 1),
+        (3, 2, beets),
+        (1, 3, 10),
+        (2, 4, 10),
+        (1, 5, -10),
+        (2, 6, -10),
+        (3, 7, -1),
+        (3, 8, -1),
+    ];
+    linear(alloc, &columns, &line, &rows, &entries)
+}
+
+/// The value that the search in order finds with fewer than a hundred boxes,
+/// after a first pass with so many tries.
+fn value_in_order(alloc: Global, problem: &Boxed, tries: u64) -> Result<Option<i128>, AllocError> {
+    let sparse = sparse_of(alloc, problem)?;
+    let mut pricing = pricing_of(alloc, problem)?;
+    let known = first_value(alloc, problem, &sparse, &mut pricing, tries)?;
+    match solve_below(alloc, problem, &sparse, &mut pricing, known, 99) {
+        Ok(best) => Ok(Some(best.value)),
+        Err(_) => Ok(None),
+    }
+}
+
+#[test]
+fn needs_few_boxes_for_the_farm(rt: HostRuntime) -> Result<(), Fail> {
+    let harvests = [
+        (30, 36, 24, -167_000),
+        (25, 30, 20, -109_350),
+        (20, 24, 16, -48_820),
+    ];
+    for (wheat, corn, beets, value) in harvests {
+        let found = farm(rt.alloc(), wheat, corn, beets)?;
+        let problem = found.expect(&rt, "a problem");
+        let best = solve(rt.alloc(), &problem, 1000)?;
+        assert_eq!(rt; best.value, value);
+        let again = value_in_order(rt.alloc(), &problem, 1000)?;
+        assert_eq!(rt; again, Some(value), "at {wheat}");
+    }
     Ok(())
 }
 

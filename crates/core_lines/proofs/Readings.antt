@@ -1,6 +1,10 @@
 -- What the reader's steps come to is what the lines say.
+use Rattle.core_lines.specs.declared.state.State.{State}
+use Rattle.line_core.specs.Lines.{lines_of}
+use Rattle.smps_words.proofs.Asking.{lines_ask}
+use Rattle.smps_words.specs.Memory.{MayRefuse}
 use Rattle.std.proofs.Common.{◌≡◌, refl, sym, ◌∙◌, ap, ℕ, ◌+◌, ◌<◌, ◌≤◌, arith, Bool, List, [], ◌∷◌, length, drop, get_or}
-use Rattle.std.specs.Prelude.{Option, Err}
+use Rattle.std.specs.Prelude.{Option, Err, Ok, Result}
 use Rattle.std.proofs.lemmas.Grind.{common_steps}
 use Rattle.std.proofs.lemmas.List.{drop_more}
 use Rattle.line_core.specs.declared.line_list.Line.{Line}
@@ -10,7 +14,7 @@ use Rattle.smps_words.specs.Outcomes.Outcome.{Faulty, Ended, Endless}
 use Rattle.smps_words.specs.TextLines.{TextLine, text_line, text_lines, last_number}
 use Rattle.core_lines.proofs.NextLaw.{goes_on}
 use Rattle.core_lines.specs.Lines.{before_of, line_fault, is_end, next}
-use Rattle.core_lines.specs.Meaning.{outcome_of, said_by, said_by_steps, Fails}
+use Rattle.core_lines.specs.Meaning.{outcome_of, said_by, said_by_steps, Fails, AreSome, Gives, meaning, said_by_read}
 use Rattle.core_lines.specs.Parts.{Before}
 use Rattle.core_lines.specs.Steps.{Refuses}
 use Rattle.core_lines.specs.declared.kinds.CoreFault.{CoreFault}
@@ -31,16 +35,26 @@ pub one_on : (bytes : List ℕ) (lines : List Line) (i : ℕ) (line : Line) (b :
 one_on bytes lines i line b lt at = ap (λ (l : List Line). folded line_fault is_end next b (text_lines bytes l)) (drop_more lines i line lt ∙ ap (λ (l : Line). l ∷ drop (i + 1) lines) (sym at))
 
 -- a line that is refused, among the others
-pub refused : (lines : List TextLine) (line : TextLine) (after : Before) (later : Outcome TextLine CoreKind Before) (ends : Bool) (fault : Option CoreKind) (f : CoreFault) → Refuses fault line.number f → folded line_fault is_end next (before_of []) lines ≡ judged fault ends line after later → Fails f (said_by_steps lines)
-refused lines line after later ends fault faults.Memory refuses is = tt
-refused lines line after later ends fault (faults.At number kind) refuses is =
+pub refused : (lines : List TextLine) (line : TextLine) (after : Before) (later : Outcome TextLine CoreKind Before) (ends : Bool) (fault : Option CoreKind) (asked : Type 0) (f : CoreFault) → asked → Refuses fault line.number f → folded line_fault is_end next (before_of []) lines ≡ judged fault ends line after later → Fails asked f (said_by_steps lines)
+refused lines line after later ends fault asked faults.Memory may refuses is = may
+refused lines line after later ends fault asked (faults.At number kind) may refuses is =
     ap (answer_of (λ (b : Before). b) (last_number lines) kinds.NoEnd) (is ∙ ap (λ f. judged f ends line after later) refuses.1) ∙ ap (λ (n : ℕ). Err (n, kind)) (sym refuses.0)
 
 none_left : (lines : List Line) (i : ℕ) → length lines ≤ i → drop i lines ≡ []
 none_left lines i le = grind (arith, common_steps)
+
+-- a line that is there
+pub some_before : (lines : List Line) (i : ℕ) → i < length lines → AreSome lines
+some_before lines i h = omega (arith, h)
 
 -- no line is left
 pub endless : (bytes : List ℕ) (lines : List Line) (i n : ℕ) (b : Before) → length lines ≤ i → folded line_fault is_end next (before_of []) (text_lines bytes lines) ≡ folded line_fault is_end next b (text_lines bytes (drop i lines)) → n ≡ last_number (text_lines bytes lines) → said_by_steps (text_lines bytes lines) ≡ Err (n, kinds.NoEnd)
 endless bytes lines i n b le is number =
     ap (answer_of (λ (s : Before). s) (last_number (text_lines bytes lines)) kinds.NoEnd) (is ∙ ap (λ (l : List Line). folded line_fault is_end next b (text_lines bytes l)) (none_left lines i le))
     ∙ ap (λ (m : ℕ). Err (m, kinds.NoEnd)) (sym number)
+
+-- what the lines of a file come to is what the file says
+pub lines_give : (bytes : List ℕ) (lines : List Line) (result : Result State CoreFault) → lines_of bytes ≡ Ok lines → Gives (AreSome lines) result (said_by (text_lines bytes lines)) → Gives (MayRefuse bytes) result (meaning bytes)
+lines_give bytes lines (Ok state) is gives = ap (said_by_read bytes) is ∙ gives
+lines_give bytes lines (Err faults.Memory) is some = lines_ask bytes lines is some
+lines_give bytes lines (Err (faults.At line kind)) is fails = ap (said_by_read bytes) is ∙ fails

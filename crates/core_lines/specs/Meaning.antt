@@ -1,5 +1,5 @@
 -- What a core file says, or its first fault.
-use Rattle.std.specs.Prelude.{◌≡◌, ℕ, List, [], Option, Result, Ok, Err}
+use Rattle.std.specs.Prelude.{◌≡◌, ℕ, List, [], Option, Result, Ok, Err, ◌<◌, length}
 use Rattle.line_core.specs.Lines.{lines_of}
 use Rattle.line_core.specs.declared.line_list.Line.{Line}
 use Rattle.line_core.specs.declared.line_list.LineFault.{LineFault}
@@ -42,12 +42,16 @@ said_by_read bytes (Err Memory) = Err (0, kinds.NoEnd)
 abbrev pub meaning : List ℕ → Result Before (ℕ × CoreKind)
 meaning bytes = said_by_read bytes (lines_of bytes)
 
--- want of memory is free, and another fault is the first one
-abbrev pub Fails : {X : Type 0} → CoreFault → Result X (ℕ × CoreKind) → Type 0
-Fails faults.Memory read = Unit {0}
-Fails (faults.At line kind) read = read ≡ Err (line, kind)
+-- a fault is the first one, or memory is refused where it is asked for
+abbrev pub Fails : {X : Type 0} → Type 0 → CoreFault → Result X (ℕ × CoreKind) → Type 0
+Fails asked faults.Memory read = asked
+Fails asked (faults.At line kind) read = read ≡ Err (line, kind)
 
 -- the reader's state is what the file says, or its fault is the file's
-abbrev pub Gives : Result State CoreFault → Result Before (ℕ × CoreKind) → Type 0
-Gives (Ok state) read = read ≡ Ok (before_in state)
-Gives (Err fault) read = Fails fault read
+abbrev pub Gives : Type 0 → Result State CoreFault → Result Before (ℕ × CoreKind) → Type 0
+Gives asked (Ok state) read = read ≡ Ok (before_in state)
+Gives asked (Err fault) read = Fails asked fault read
+
+-- lines ask for memory where there are some
+abbrev pub AreSome : List Line → Type 0
+AreSome lines = 0 < length lines

@@ -9,45 +9,19 @@ ghost use Rattle.core_lines.specs.BoundParts.{AreEndsSmall, HasGoodPlaces, has_c
 ghost use Rattle.core_lines.specs.Boxes.{end_said};
 ghost use Rattle.core_lines.specs.States.{Keeps, Takes, bounds_in_part};
 
+use crate::bound_kinds::{has_count, has_value, is_bad, lower_said, speaks_low, upper_said};
+use crate::bound_numbers::{is_beyond, value_fault, value_read};
 use crate::bound_values::BoundValue;
-use crate::cells::{Bound, EndChange};
+use crate::cells::Bound;
 use crate::growing::grow_flags;
 use crate::kinds::{CoreKind, Stop};
 use crate::parts::BoundPart;
-use crate::rounding::{ceiling_of, floor_of};
 use crate::set_names::{is_used, use_set};
 use crate::words::{BoundKind, bound_kind_named};
-use dec_core::{DecFault, Decimal, read};
+use dec_core::read;
 use line_core::Names;
 use smps_words::FileLine;
 use std::alloc::Global;
-
-/// The greatest magnitude of a bound.
-const MAX_END: u128 = 1_000_000_000;
-
-/// A value of at least this magnitude says that there is no bound.
-const NO_BOUND: u128 = 100_000_000_000_000_000_000;
-
-// Whether lines of a kind have a value.
-fn has_value(kind: BoundKind) -> bool
-    ensures { result ≡ has_value kind }
-{
-    match kind {
-        BoundKind::Lower | BoundKind::Upper | BoundKind::Fixed => true,
-        BoundKind::Free | BoundKind::NoLower | BoundKind::NoUpper | BoundKind::Binary => false,
-    }
-}
-
-// Whether a line of a kind has as many fields as it should.
-fn has_count(kind: BoundKind, count: usize) -> bool
-    ensures { result ≡ has_count kind count }
-{
-    if has_value(kind) {
-        3 <= count && count <= 4
-    } else {
-        2 <= count && count <= 4
-    }
-}
 
 // Whether a line of a kind names its set.
 fn names_set(kind: BoundKind, line: &FileLine<'_>) -> bool
@@ -58,168 +32,6 @@ fn names_set(kind: BoundKind, line: &FileLine<'_>) -> bool
         line.count() == 4
     } else {
         3 <= line.count()
-    }
-}
-
-// A power of ten up to the ninth.
-fn power_of_ten(exponent: u8) -> u128
-    requires { exponent ≤ 9 }
-    ensures { result ≡ 10 ^ exponent }
-{
-    u128::from(10u64.pow(u32::from(exponent)))
-}
-
-// Whether a number says that there is no bound.
-fn is_vast(value: Decimal) -> bool
-    requires { value.places ≤ 9 }
-    ensures { result ≡ is_vast value }
-{
-    NO_BOUND * power_of_ten(value.places) <= value.mantissa.unsigned_abs()
-}
-
-// What the text of a bound says.
-fn value_read(found: Result<Decimal, DecFault>) -> BoundValue
-    requires { IfOk found (λ value. value.places ≤ 9) }
-    ensures exact { result ≡ value_read found }
-    ensures places { HasGoodPlaces result }
-{
-    match found {
-        Ok(value) => {
-            if is_vast(value) {
-                BoundValue::Endless {
-                    negative: value.mantissa < 0,
-                }
-            } else {
-                BoundValue::Finite(value)
-            }
-        }
-        Err(DecFault::TooLarge { negative }) => BoundValue::Endless { negative },
-        Err(_) => BoundValue::Finite(Decimal {
-            mantissa: 0,
-            places: 0,
-        }),
-    }
-}
-
-// The fault of the text of a bound, which is never that it is too large.
-fn value_fault(found: Result<Decimal, DecFault>) -> Option<CoreKind>
-    ensures { result ≡ value_fault found }
-{
-    match found {
-        Ok(_) => None,
-        Err(DecFault::NotNumber) => Some(CoreKind::Number),
-        Err(DecFault::TooManyPlaces) => Some(CoreKind::TooManyPlaces),
-        Err(DecFault::TooLarge { .. }) => None,
-    }
-}
-
-fn is_endless(value: BoundValue) -> bool
-    ensures { result ≡ is_endless value }
-{
-    matches!(value, BoundValue::Endless { .. })
-}
-
-fn is_below(value: BoundValue) -> bool
-    ensures { result ≡ is_below value }
-{
-    match value {
-        BoundValue::Endless { negative } => negative,
-        BoundValue::Finite(number) => number.mantissa < 0,
-    }
-}
-
-// Whether a value is a number of too great a magnitude.
-fn is_beyond(value: BoundValue) -> bool
-    requires { HasGoodPlaces value }
-    ensures { result ≡ is_beyond value }
-{
-    match value {
-        BoundValue::Endless { .. } => false,
-        BoundValue::Finite(number) => {
-            MAX_END * power_of_ten(number.places) < number.mantissa.unsigned_abs()
-        }
-    }
-}
-
-// Whether a bound is bad, given whether an earlier line spoke of the lower end.
-fn is_bad(kind: BoundKind, value: BoundValue, lowered: bool) -> bool
-    ensures { result ≡ is_bad kind value lowered }
-{
-    match kind {
-        BoundKind::Lower => is_endless(value) && !is_below(value),
-        BoundKind::Upper => is_below(value) && (is_endless(value) || !lowered),
-        BoundKind::Fixed => is_endless(value),
-        BoundKind::Free | BoundKind::NoLower | BoundKind::NoUpper | BoundKind::Binary => false,
-    }
-}
-
-fn low_change(value: BoundValue) -> EndChange
-    requires places { HasGoodPlaces value }
-    requires small { is_beyond value ≡ false }
-    ensures { result ≡ low_change value }
-{
-    match value {
-        BoundValue::Endless { .. } => EndChange::Open,
-        BoundValue::Finite(number) => EndChange::At(ceiling_of(number)),
-    }
-}
-
-fn high_change(value: BoundValue) -> EndChange
-    requires places { HasGoodPlaces value }
-    requires small { is_beyond value ≡ false }
-    ensures { result ≡ high_change value }
-{
-    match value {
-        BoundValue::Endless { .. } => EndChange::Open,
-        BoundValue::Finite(number) => EndChange::At(floor_of(number)),
-    }
-}
-
-// What a line of a kind says of the lower end.
-fn lower_said(kind: BoundKind, value: BoundValue) -> EndChange
-    requires places { HasGoodPlaces value }
-    requires small { has_value kind ≡ true → is_beyond value ≡ false }
-    ensures { result ≡ lower_said kind value }
-{
-    match kind {
-        BoundKind::Lower => low_change(value),
-        BoundKind::Fixed => low_change(value),
-        BoundKind::Free => EndChange::Open,
-        BoundKind::NoLower => EndChange::Open,
-        BoundKind::Binary => EndChange::At(0),
-        BoundKind::Upper => EndChange::Kept,
-        BoundKind::NoUpper => EndChange::Kept,
-    }
-}
-
-// What a line of a kind says of the upper end.
-fn upper_said(kind: BoundKind, value: BoundValue) -> EndChange
-    requires places { HasGoodPlaces value }
-    requires small { has_value kind ≡ true → is_beyond value ≡ false }
-    ensures { result ≡ upper_said kind value }
-{
-    match kind {
-        BoundKind::Upper => high_change(value),
-        BoundKind::Fixed => high_change(value),
-        BoundKind::Free => EndChange::Open,
-        BoundKind::NoUpper => EndChange::Open,
-        BoundKind::Binary => EndChange::At(1),
-        BoundKind::Lower => EndChange::Kept,
-        BoundKind::NoLower => EndChange::Kept,
-    }
-}
-
-// Whether a line of a kind is one after which an upper bound below 0 may stand.
-fn speaks_low(kind: BoundKind) -> bool
-    ensures { result ≡ speaks_low kind }
-{
-    match kind {
-        BoundKind::Upper | BoundKind::NoUpper => false,
-        BoundKind::Lower
-        | BoundKind::Fixed
-        | BoundKind::Free
-        | BoundKind::NoLower
-        | BoundKind::Binary => true,
     }
 }
 
@@ -278,6 +90,7 @@ fn bound_set<'a>(kind: BoundKind, line: &FileLine<'a>) -> &'a [u8]
     }
 }
 
+// The name of a line's column.
 fn column_word<'a>(kind: BoundKind, line: &FileLine<'a>) -> &'a [u8]
     requires { kind_of (text_of line.now) ≡ Some kind }
     ensures { result.now ≡ column_word (text_of line.now) }
@@ -289,6 +102,7 @@ fn column_word<'a>(kind: BoundKind, line: &FileLine<'a>) -> &'a [u8]
     }
 }
 
+// The text of a line's value.
 fn value_word<'a>(kind: BoundKind, line: &FileLine<'a>) -> &'a [u8]
     requires { kind_of (text_of line.now) ≡ Some kind }
     ensures { result.now ≡ value_word (text_of line.now) }

@@ -2,7 +2,9 @@
 //! what the lines of each section say, and their faults.
 #![tactic(auto)]
 
+mod bound_kinds;
 mod bound_lines;
+mod bound_numbers;
 mod bound_values;
 mod boxes;
 mod cells;
@@ -20,8 +22,6 @@ mod set_names;
 mod side_lines;
 mod state;
 mod steps;
-#[cfg(test)]
-mod tests;
 mod words;
 
 pub use bound_values::BoundValue;

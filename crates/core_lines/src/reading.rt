@@ -1,8 +1,9 @@
 ghost use Rattle.std.specs.Prelude.{◌≡◌, ℕ, []};
+ghost use Rattle.smps_words.specs.Memory.{MayRefuse};
 ghost use Rattle.smps_words.specs.TextLines.{last_number, text_lines};
 ghost use Rattle.core_lines.specs.Headers.{is_rights};
 ghost use Rattle.core_lines.specs.Lines.{before_of, bounds_of, columns_of, rows_of, sides_of};
-ghost use Rattle.core_lines.specs.Meaning.{Gives, meaning, said_by, said_by_steps};
+ghost use Rattle.core_lines.specs.Meaning.{AreSome, Gives, meaning, said_by, said_by_steps};
 ghost use Rattle.core_lines.specs.States.{before_in, bounds_in_part, columns_in, rows_in, sides_in_part};
 
 use crate::headers::Headers;
@@ -90,7 +91,7 @@ fn last_number(lines: &[Line]) -> u64
 
 // What the lines say, by a state that goes from line to line.
 fn read_by_steps(alloc: Global, bytes: &[u8], lines: &[Line]) -> Result<State, CoreFault>
-    ensures { Gives result (said_by_steps (text_lines bytes.now lines.now)) }
+    ensures { Gives (AreSome lines.now) result (said_by_steps (text_lines bytes.now lines.now)) }
 {
     let mut state = start(alloc);
     for line in lines {
@@ -109,15 +110,16 @@ fn read_by_steps(alloc: Global, bytes: &[u8], lines: &[Line]) -> Result<State, C
 
 // What the lines say, each judged by the lines before it.
 fn read_lines(alloc: Global, bytes: &[u8], lines: &[Line]) -> Result<State, CoreFault>
-    ensures { Gives result (said_by (text_lines bytes.now lines.now)) }
+    ensures { Gives (AreSome lines.now) result (said_by (text_lines bytes.now lines.now)) }
 {
     read_by_steps(alloc, bytes, lines)
 }
 
 /// What a core file says up to its end. A fault comes exactly where the file
-/// has one, and is the first of them.
+/// has one, and is the first of them. Memory is refused only where a line is read
+/// before the first fault of the lines.
 pub fn read_state(alloc: Global, bytes: &[u8]) -> Result<State, CoreFault>
-    ensures { Gives result (meaning bytes.now) }
+    ensures { Gives (MayRefuse bytes.now) result (meaning bytes.now) }
 {
     match lines(alloc, bytes) {
         Ok(found) => read_lines(alloc, bytes, found.as_slice()),

@@ -5,8 +5,8 @@ ghost use Rattle.core_lines.specs.BoundLines.{ceiling_of, floor_of};
 
 use dec_core::Decimal;
 
-// A power of ten up to the ninth.
-fn power_of_ten(exponent: u8) -> u64
+/// A power of ten up to the ninth.
+pub fn power_of_ten(exponent: u8) -> u64
     requires { exponent ≤ 9 }
     ensures value { result ≡ 10 ^ exponent }
     ensures some { 0 < result }

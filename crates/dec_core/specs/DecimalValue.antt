@@ -29,6 +29,10 @@ places_of s = position_or_len (are_enough s) (range_with_len 0 s.lowered)
 unfoldable pub mantissa_of : Spelling → ℕ
 mantissa_of s = digits_value 10 s.digits * 10 ^ s.raised * 10 ^ places_of s / 10 ^ s.lowered
 
+-- the mantissa and the places of a spelling are its one value with the fewest places
+abbrev pub HasOneValue : Spelling → Type 0
+HasOneValue s = (m p : ℕ) → IsValue s m p → (m ≡ mantissa_of s) × (p ≡ places_of s)
+
 -- the greatest number of decimal places
 abbrev pub max_places : ℕ
 max_places = 9

@@ -67,10 +67,14 @@ spelled negative whole fraction exponent = record {
 abbrev pub has_digit : List ℕ → List ℕ → Bool
 has_digit whole fraction = not ((length whole == 0) && (length fraction == 0))
 
+-- an exponent or none, and at least one digit before it
+abbrev pub ends_well : List ℕ → List ℕ → Option (List ℕ) → Bool
+ends_well whole fraction exponent = is_exponent exponent && has_digit whole fraction
+
 -- the parts of a number: digits before and behind the point, at least one, and an exponent or none
 abbrev pub are_parts : List ℕ → List ℕ → Option (List ℕ) → Bool
 are_parts whole fraction exponent =
-    (list_all is_ascii_digit whole && list_all is_ascii_digit fraction) && (is_exponent exponent && has_digit whole fraction)
+    (list_all is_ascii_digit whole && list_all is_ascii_digit fraction) && ends_well whole fraction exponent
 
 -- the spelling with these parts, if they are a number's
 abbrev pub spelling_with : Bool → List ℕ → List ℕ → Option (List ℕ) → Option Spelling

@@ -1,5 +1,7 @@
 -- rows of digits without the zeros at their end, up to caps above all limits
-use Rattle.std.specs.Prelude.{◌≡◌, ℕ, ◌*◌, ◌%◌, ◌^◌, min}
+use Rattle.std.specs.Prelude.{◌≡◌, ℕ, ◌*◌, ◌%◌, ◌^◌, min, List}
+use Rattle.std.specs.Str.Parse.{digits_value}
+use Rattle.dec_core.specs.declared.significand.Significand.{Significand}
 
 -- a number of at least 10^37 counts as 10^37, which is above each limit
 abbrev pub max_significand : ℕ
@@ -15,3 +17,7 @@ pub record IsStripped (n value zeros : ℕ) : Type 0 where
   pub exact : n ≡ number * 10 ^ zeros
   pub last : number % 10 ≡ 0 → number ≡ 0
   pub capped : value ≡ min number max_significand
+
+-- a significand of the number that is written by these digits
+abbrev pub IsSignificandOf : List ℕ → Significand → Type 0
+IsSignificandOf digits significand = IsStripped (digits_value 10 digits) significand.value significand.zeros

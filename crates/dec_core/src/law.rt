@@ -1,7 +1,7 @@
 ghost use Rattle.std.specs.Prelude.{◌≡◌, ℕ, List};
 ghost use Rattle.std.specs.Str.Parse.{digits_value};
 ghost use Rattle.dec_core.specs.Spelling.{Spelling};
-ghost use Rattle.dec_core.specs.DecimalValue.{IsValue, IsNormal, decimal_of, mantissa_of, places_of};
+ghost use Rattle.dec_core.specs.DecimalValue.{HasOneValue, IsValue, IsNormal, decimal_of, mantissa_of, places_of};
 
 use crate::decimal::Decimal;
 
@@ -10,7 +10,7 @@ use crate::decimal::Decimal;
 /// text is read as is within the limits, and has no place that isn't needed.
 pub fn one_value()
     ensures found { (s : Spelling) → IsValue s (mantissa_of s) (places_of s) }
-    ensures only { (s : Spelling) (m p : ℕ) → IsValue s m p → (m ≡ mantissa_of s) × (p ≡ places_of s) }
+    ensures only { (s : Spelling) → HasOneValue s }
     ensures zero { (s : Spelling) → digits_value 10 s.digits ≡ 0 → IsValue s 0 0 }
     ensures normal { (text : List ℕ) (d : Decimal) → decimal_of text ≡ Ok d → IsNormal d }
 {}

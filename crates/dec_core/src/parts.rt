@@ -2,8 +2,8 @@ ghost use Rattle.std.specs.Prelude.{◌≡◌, ◌&&◌, IfSome, position, true}
 ghost use Rattle.std.specs.Char.{is_ascii_digit};
 ghost use Rattle.std.specs.List.{list_all, before_first, after_first};
 ghost use Rattle.std.specs.Option.{option_copied, option_map};
-ghost use Rattle.dec_core.specs.Spelling.{is_mark, is_point, has_minus, unsigned_text, exponent_text, is_digit_string, is_exponent, has_digit, are_parts, spelling_of};
-ghost use Rattle.dec_core.specs.SpellingOfParts.{spelling_of_parts};
+ghost use Rattle.dec_core.specs.Spelling.{is_mark, is_point, has_minus, unsigned_text, exponent_text, is_digit_string, is_exponent, has_digit, ends_well, are_parts, spelling_of};
+ghost use Rattle.dec_core.specs.SpellingOfParts.{SpellNumber, spelling_of_parts};
 
 /// The parts of a number's text: its sign, the digits before and behind the
 /// point, and what follows the mark of an exponent.
@@ -104,7 +104,7 @@ fn are_both_digits(whole: &[u8], fraction: &[u8]) -> bool
 }
 
 fn ends_well(whole: &[u8], fraction: &[u8], exponent: Option<&[u8]>) -> bool
-    ensures { result ≡ (is_exponent (option_copied exponent.entry) && has_digit whole.now fraction.now) }
+    ensures { result ≡ ends_well whole.now fraction.now (option_copied exponent.entry) }
 {
     is_exponent(exponent) && has_digit(whole, fraction)
 }
@@ -120,7 +120,7 @@ fn are_parts(whole: &[u8], fraction: &[u8], exponent: Option<&[u8]>) -> bool
 #[tactic(auto, unfolding(crate::specs::Spelling::spelling_of))]
 pub fn split(text: &[u8]) -> Option<Parts<'_>>
     ensures spelling { option_map spelling_of_parts result ≡ spelling_of text.now }
-    ensures parts { IfSome result (λ parts. are_parts parts.whole.now parts.fraction.now (option_copied parts.exponent) ≡ true) }
+    ensures parts { IfSome result SpellNumber }
 {
     let (mantissa, exponent) = cut_exponent(unsigned_text(text));
     let (whole, fraction) = cut_point(mantissa);

@@ -3,9 +3,9 @@ ghost use Rattle.std.specs.Char.{is_ascii_digit};
 ghost use Rattle.std.specs.List.{list_all};
 ghost use Rattle.std.specs.Option.{option_copied};
 ghost use Rattle.dec_core.specs.Spelling.{are_parts, is_exponent, raised_by, lowered_by, spelling_of};
-ghost use Rattle.dec_core.specs.SpellingOfParts.{spelling_of_parts};
+ghost use Rattle.dec_core.specs.SpellingOfParts.{SpellNumber, spelling_of_parts};
 ghost use Rattle.std.specs.Str.Parse.{digits_value};
-ghost use Rattle.dec_core.specs.Stripped.{IsStripped, max_exponent, max_significand};
+ghost use Rattle.dec_core.specs.Stripped.{IsSignificandOf, max_exponent, max_significand};
 ghost use Rattle.dec_core.specs.DecimalValue.{IsNormal, ReadsAs, within_limits, decimal_of, decimal_of_spelling};
 
 use crate::decimal::{DecFault, Decimal};
@@ -56,7 +56,7 @@ fn powers_of(exponent: Option<&[u8]>) -> (u128, u128)
 fn significand_of(whole: &[u8], fraction: &[u8]) -> Significand
     requires whole { list_all is_ascii_digit whole.now ≡ true }
     requires fraction { list_all is_ascii_digit fraction.now ≡ true }
-    ensures stripped { IsStripped (digits_value 10 (whole.now ++ fraction.now)) result.value result.zeros }
+    ensures stripped { IsSignificandOf (whole.now ++ fraction.now) result }
     ensures value { result.value ≤ max_significand }
     ensures zeros { result.zeros ≤ 2 ^ 65 }
 {
@@ -66,7 +66,7 @@ fn significand_of(whole: &[u8], fraction: &[u8]) -> Significand
 
 /// The number that the parts spell.
 fn decimal_of_parts(parts: &Parts<'_>) -> Result<Decimal, DecFault>
-    requires { are_parts parts.now.whole.now parts.now.fraction.now (option_copied parts.now.exponent) ≡ true }
+    requires { SpellNumber parts.now }
     ensures { result ≡ decimal_of_spelling (Some (spelling_of_parts parts.now)) }
 {
     let significand = significand_of(parts.whole, parts.fraction);

@@ -27,6 +27,11 @@ abbrev pub CountsOne : {F : Type 0} → ℕ → ℕ → Option F → Type 0
 CountsOne before after None = after ≡ before
 CountsOne before after (Some fault) = after ≡ next_count before
 
+-- a value that isn't there counts as one fault
+abbrev pub CountsMissing : {X : Type 0} → ℕ → ℕ → Option X → Type 0
+CountsMissing before after (Some value) = after ≡ before
+CountsMissing before after None = after ≡ next_count before
+
 -- the fault that a load reports: a failure, and neither a file that is too long nor want of memory
 abbrev pub load_fault : {B : Type 0} → Result B LoadFault → Option LoadFault
 load_fault (Ok _) = None

@@ -1,8 +1,10 @@
 -- what a shelf in memory keeps, and when its next load is to fail
-use Rattle.std.specs.Prelude.{ℕ, List, Bool, ◌||◌, is_none, Option, Some}
+use Rattle.std.specs.Prelude.{◌≡◌, ℕ, List, Bool, ◌||◌, is_none, Option, Some, Result}
 use Rattle.std.specs.FinMap.{get, insert}
 use Rattle.io_edge.specs.Calls.{fails_next}
-use Rattle.io_edge.specs.Shelves.{FileTable}
+use Rattle.io_edge.specs.Shelves.{FileTable, StoreLeaves, names_after_load, names_after_store}
+use Rattle.io_edge.specs.declared.faults.EdgeFault.{EdgeFault}
+use Rattle.io_edge.specs.declared.faults.LoadFault.{LoadFault}
 use Rattle.io_edge.specs.declared.calls.Calls.{Calls}
 use Rattle.io_edge.specs.declared.memory_shelf.MemoryShelf.{MemoryShelf}
 
@@ -37,3 +39,15 @@ told_files shelf = Some (files_of shelf)
 -- and its names
 abbrev pub told_names : MemoryShelf → Option (List (List ℕ))
 told_names shelf = Some (names_of shelf)
+
+-- a load leaves the names of its calls so
+abbrev pub LoadLeavesNames : {B : Type 0} → MemoryShelf → MemoryShelf → List ℕ → Result B LoadFault → Type 0
+LoadLeavesNames old new name result = told_names new ≡ names_after_load result (told_names old) name
+
+-- and so does a store
+abbrev pub StoreLeavesNames : {U : Type 0} → MemoryShelf → MemoryShelf → List ℕ → Result U EdgeFault → Type 0
+StoreLeavesNames old new name result = told_names new ≡ names_after_store result (told_names old) name
+
+-- a store leaves the files so
+abbrev pub StoreLeavesFiles : {U : Type 0} → MemoryShelf → MemoryShelf → List ℕ → List ℕ → Result U EdgeFault → Type 0
+StoreLeavesFiles old new name bytes result = StoreLeaves (told_files old) (told_files new) name bytes result

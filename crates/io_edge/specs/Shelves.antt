@@ -35,6 +35,10 @@ Holds files name bytes = IfSome files (λ table. get table name ≡ Some bytes)
 abbrev pub IsOver : Option FileTable → List ℕ → ℕ → Type 0
 IsOver files name limit = IfSome files (λ table. IsSomeAnd (get table name) (λ bytes. limit < length bytes))
 
+-- a load asks for memory: bytes stand under the name, at least one and within the limit
+abbrev pub AsksMemory : FileTable → List ℕ → ℕ → Type 0
+AsksMemory table name limit = IsSomeAnd (get table name) (λ bytes. (0 < length bytes) × (length bytes ≤ limit))
+
 -- what a load answers: the bytes under the name where they are within the limit, and TooLong where they are more
 abbrev pub LoadGives : Option FileTable → List ℕ → ℕ → Result (Vec ℕ Global) LoadFault → Type 0
 LoadGives files name limit (Ok loaded) = Holds files name loaded.items × (length loaded.items ≤ limit)

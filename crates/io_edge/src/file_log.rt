@@ -1,8 +1,8 @@
-ghost use Rattle.std.specs.Prelude.{◌≡◌, OnErr, OnOk, Some, is_none};
+ghost use Rattle.std.specs.Prelude.{◌≡◌, OnErr, OnOk, Some, is_none, true};
 ghost use Rattle.std.specs.FinMap as map;
 ghost use Rattle.std.specs.Option.{option_copied};
-ghost use Rattle.io_edge.specs.Faults.{LoadFailsIf};
-ghost use Rattle.io_edge.specs.Shelves.{LoadGives};
+ghost use Rattle.io_edge.specs.Faults.{LoadFailsIf, load_refused};
+ghost use Rattle.io_edge.specs.Shelves.{AsksMemory, LoadGives};
 
 use crate::faults::LoadFault;
 use std::alloc::{AllocError, Global};
@@ -63,6 +63,7 @@ impl FileLog {
     pub fn load(&self, alloc: Global, name: &[u8], limit: usize) -> Result<Vec<u8>, LoadFault>
         ensures gives { LoadGives (Some self.now) name.now limit result }
         ensures fails { LoadFailsIf (is_none (map.get self.now name.now)) result }
+        ensures refused { load_refused result ≡ true → AsksMemory self.now name.now limit }
     {
         let Some(bytes) = self.get(name) else {
             return Err(LoadFault::Failed);

@@ -2,7 +2,7 @@ ghost use Rattle.std.specs.Prelude.{◌≡◌};
 
 use crate::faults::{EdgeFault, LoadFault};
 use crate::shelves::Shelf;
-use crate::streams::{put_counted, read_counted};
+use crate::streams::{counted, put_counted, read_counted};
 use std::alloc::Global;
 use std::fs;
 use std::rt::Files;
@@ -28,8 +28,8 @@ impl<'a, R: Files> FileShelf<'a, R> {
 impl<'a, R: Files> Shelf for FileShelf<'a, R> {
     ghost use Rattle.std.specs.Prelude.{false};
     ghost use Rattle.io_edge.specs.Faults.{Counts, CountsOne, edge_fault, edge_refused, load_fault};
-    ghost use Rattle.io_edge.specs.FileShelf.{count_of, files_of, names_of};
-    ghost use Rattle.io_edge.specs.Shelves.{LoadGives, StoreLeaves, names_after_load, names_after_store};
+    ghost use Rattle.io_edge.specs.FileShelf.{count_of, files_of, names_of, StoreLeavesFiles};
+    ghost use Rattle.io_edge.specs.Shelves.{LoadGives, names_after_load, names_after_store};
 
     ghost files = { λ shelf. files_of shelf };
 
@@ -44,22 +44,20 @@ impl<'a, R: Files> Shelf for FileShelf<'a, R> {
         ensures count { Counts (count_of self.old) (count_of self.new) (load_fault result) }
         ensures one_fault { CountsOne (count_of self.old) (count_of self.new) (load_fault result) }
     {
-        let Ok(mut file) = fs::open(self.rt, name) else {
-            self.faults = self.faults.saturating_add(1);
+        let Some(mut file) = counted(fs::open(self.rt, name), &mut self.faults) else {
             return Err(LoadFault::Failed);
         };
         read_counted(alloc, &mut file, limit, &mut self.faults)
     }
 
     fn store(&mut self, name: &str, bytes: &[u8]) -> Result<(), EdgeFault>
-        ensures files { StoreLeaves (files_of self.old) (files_of self.new) name.now bytes.now result }
+        ensures files { StoreLeavesFiles self.old self.new name.now bytes.now result }
         ensures names { names_of self.new ≡ names_after_store result (names_of self.old) name.now }
         ensures count { Counts (count_of self.old) (count_of self.new) (edge_fault result) }
         ensures one_fault { CountsOne (count_of self.old) (count_of self.new) (edge_fault result) }
         ensures never_refused { edge_refused result ≡ false }
     {
-        let Ok(mut file) = fs::create(self.rt, name) else {
-            self.faults = self.faults.saturating_add(1);
+        let Some(mut file) = counted(fs::create(self.rt, name), &mut self.faults) else {
             return Err(EdgeFault::Failed);
         };
         put_counted(&mut file, bytes, &mut self.faults)

@@ -70,8 +70,8 @@ impl MemoryShelf {
 impl Shelf for MemoryShelf {
     ghost use Rattle.std.specs.Prelude.{Some};
     ghost use Rattle.io_edge.specs.Faults.{Counts, EdgeFailsIf, LoadFailsIf, edge_fault, load_fault};
-    ghost use Rattle.io_edge.specs.Shelves.{LoadGives, StoreLeaves, names_after_load, names_after_store};
-    ghost use Rattle.io_edge.specs.MemoryShelf.{calls_of, count_of, fails_load, files_of, told_files, told_names};
+    ghost use Rattle.io_edge.specs.Shelves.{LoadGives};
+    ghost use Rattle.io_edge.specs.MemoryShelf.{calls_of, count_of, fails_load, files_of, told_files, told_names, LoadLeavesNames, StoreLeavesFiles, StoreLeavesNames};
     ghost use Rattle.io_edge.specs.Calls.{after_edge, after_load, fails_next};
 
     ghost files = { λ shelf. told_files shelf };
@@ -83,7 +83,7 @@ impl Shelf for MemoryShelf {
     fn load(&mut self, alloc: Global, name: &str, limit: usize) -> Result<Vec<u8>, LoadFault>
         ensures gives { LoadGives (told_files self.old) name.now limit result }
         ensures files { told_files self.new ≡ told_files self.old }
-        ensures names { told_names self.new ≡ names_after_load result (told_names self.old) name.now }
+        ensures names { LoadLeavesNames self.old self.new name.now result }
         ensures count { Counts (count_of self.old) (count_of self.new) (load_fault result) }
         ensures fails { LoadFailsIf (fails_load self.old name.now) result }
         ensures calls { calls_of self.new ≡ after_load result (calls_of self.old) }
@@ -107,8 +107,8 @@ impl Shelf for MemoryShelf {
     }
 
     fn store(&mut self, name: &str, bytes: &[u8]) -> Result<(), EdgeFault>
-        ensures files { StoreLeaves (told_files self.old) (told_files self.new) name.now bytes.now result }
-        ensures names { told_names self.new ≡ names_after_store result (told_names self.old) name.now }
+        ensures files { StoreLeavesFiles self.old self.new name.now bytes.now result }
+        ensures names { StoreLeavesNames self.old self.new name.now result }
         ensures count { Counts (count_of self.old) (count_of self.new) (edge_fault result) }
         ensures kept { OnErr result (files_of self.new ≡ files_of self.old) }
         ensures fails { EdgeFailsIf (fails_next (calls_of self.old)) result }

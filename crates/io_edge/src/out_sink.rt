@@ -29,9 +29,8 @@ impl<W: Write> OutSink<W> {
 impl<W: Write> Sink for OutSink<W> {
     ghost use Rattle.std.specs.Prelude.{None, false};
     ghost use Rattle.io_edge.specs.Faults.{Counts, CountsOne, edge_fault, edge_refused};
-    ghost use Rattle.io_edge.specs.OutSink.{count_of, stream_of};
+    ghost use Rattle.io_edge.specs.OutSink.{PutGoesOut, count_of};
     ghost use Rattle.io_edge.specs.Sinks.{PutLeaves};
-    ghost use Rattle.io_edge.specs.Streams.{PutTakes};
 
     ghost written = { λ _. None };
 
@@ -41,7 +40,7 @@ impl<W: Write> Sink for OutSink<W> {
         ensures written { PutLeaves None None bytes.now result }
         ensures count { Counts (count_of self.old) (count_of self.new) (edge_fault result) }
         ensures one_fault { CountsOne (count_of self.old) (count_of self.new) (edge_fault result) }
-        ensures stream { PutTakes W.contents (stream_of self.old) (stream_of self.new) bytes.now result }
+        ensures stream { PutGoesOut W.contents self.old self.new bytes.now result }
         ensures never_refused { edge_refused result ≡ false }
     {
         put_counted(&mut self.out, bytes, &mut self.faults)

@@ -1,5 +1,5 @@
-ghost use Rattle.std.specs.Prelude.{◌≡◌, false};
-ghost use Rattle.io_edge.specs.Faults.{Counts, CountsOne, edge_fault, edge_refused, load_fault};
+ghost use Rattle.std.specs.Prelude.{◌≡◌, ◌<◌, false, length, MatchResult, None, OnErr, Some};
+ghost use Rattle.io_edge.specs.Faults.{Counts, CountsMissing, CountsOne, Rises, edge_fault, edge_refused, load_fault};
 ghost use Rattle.io_edge.specs.Streams.{PutTakes, ReadsWithin, TakesWhole};
 
 use crate::faults::{EdgeFault, LoadFault};
@@ -8,7 +8,8 @@ use std::io::{Read, Write};
 
 // Writes all bytes; false where a write failed or took nothing.
 fn write_whole<W: Write>(out: &mut W, bytes: &[u8]) -> bool
-    ensures { TakesWhole result (W.contents out.old) (W.contents out.new) bytes.now }
+    ensures takes { TakesWhole result (W.contents out.old) (W.contents out.new) bytes.now }
+    ensures some { result ≡ false → 0 < length bytes.now }
 {
     let mut at = 0;
     while at < bytes.len() {
@@ -26,6 +27,7 @@ pub fn put_counted<W: Write>(out: &mut W, bytes: &[u8], faults: &mut u64) -> Res
     ensures count { Counts faults.old faults.new (edge_fault result) }
     ensures one_fault { CountsOne faults.old faults.new (edge_fault result) }
     ensures never_refused { edge_refused result ≡ false }
+    ensures some { OnErr result (0 < length bytes.now) }
 {
     if write_whole(out, bytes) {
         return Ok(());
@@ -34,14 +36,37 @@ pub fn put_counted<W: Write>(out: &mut W, bytes: &[u8], faults: &mut u64) -> Res
     Err(EdgeFault::Failed)
 }
 
-// All that is left to read, which is at most `limit` bytes.
-fn read_within<S: Read>(alloc: Global, source: &mut S, limit: usize) -> Result<Vec<u8>, LoadFault>
-    ensures { ReadsWithin (λ read. read.items) (S.remaining source.old) limit result }
+// What a call of the runtime gave; where it failed, a fault is counted.
+pub fn counted<T, E: Drop>(done: Result<T, E>, faults: &mut u64) -> Option<T>
+    ensures value { MatchResult done (λ value. result ≡ Some value) (λ _. result ≡ None) }
+    ensures count { CountsMissing faults.old faults.new result }
+    ensures rises { result ≡ None → Rises faults.old faults.new }
+{
+    match done {
+        Ok(value) => Some(value),
+        Err(_) => {
+            *faults = faults.saturating_add(1);
+            None
+        }
+    }
+}
+
+// All that is left to read, which is at most `limit` bytes. A read that fails
+// is a fault, and ends it.
+pub fn read_counted<S: Read>(
+    alloc: Global,
+    source: &mut S,
+    limit: usize,
+    faults: &mut u64,
+) -> Result<Vec<u8>, LoadFault>
+    ensures reads { ReadsWithin (λ read. read.items) (S.remaining source.old) limit result }
+    ensures count { Counts faults.old faults.new (load_fault result) }
+    ensures one_fault { CountsOne faults.old faults.new (load_fault result) }
 {
     let mut piece = [0u8; 4096];
     let mut bytes = Vec::new(alloc);
     loop {
-        let Ok(len) = source.read(&mut piece) else {
+        let Some(len) = counted(source.read(&mut piece), faults) else {
             return Err(LoadFault::Failed);
         };
         if len == 0 {
@@ -54,22 +79,4 @@ fn read_within<S: Read>(alloc: Global, source: &mut S, limit: usize) -> Result<V
             return Err(LoadFault::Memory);
         };
     }
-}
-
-// The same, with a fault counted where a read fails.
-pub fn read_counted<S: Read>(
-    alloc: Global,
-    source: &mut S,
-    limit: usize,
-    faults: &mut u64,
-) -> Result<Vec<u8>, LoadFault>
-    ensures reads { ReadsWithin (λ read. read.items) (S.remaining source.old) limit result }
-    ensures count { Counts faults.old faults.new (load_fault result) }
-    ensures one_fault { CountsOne faults.old faults.new (load_fault result) }
-{
-    let answer = read_within(alloc, source, limit);
-    if let Err(LoadFault::Failed) = answer {
-        *faults = faults.saturating_add(1);
-    }
-    answer
 }

@@ -51,8 +51,8 @@ impl SureShelf {
 impl Shelf for SureShelf {
     ghost use Rattle.std.specs.Prelude.{Some, false, is_none};
     ghost use Rattle.io_edge.specs.Faults.{Counts, CountsOne, EdgeFailsIf, LoadFailsIf, edge_fault, load_fault};
-    ghost use Rattle.io_edge.specs.Shelves.{LoadGives, StoreLeaves, names_after_load, names_after_store};
-    ghost use Rattle.io_edge.specs.SureShelf.{count_of, files_of, told_files, told_names};
+    ghost use Rattle.io_edge.specs.Shelves.{LoadGives};
+    ghost use Rattle.io_edge.specs.SureShelf.{count_of, files_of, told_files, told_names, LoadLeavesNames, StoreLeavesFiles, StoreLeavesNames};
 
     ghost files = { λ shelf. told_files shelf };
 
@@ -63,7 +63,7 @@ impl Shelf for SureShelf {
     fn load(&mut self, alloc: Global, name: &str, limit: usize) -> Result<Vec<u8>, LoadFault>
         ensures gives { LoadGives (told_files self.old) name.now limit result }
         ensures files { told_files self.new ≡ told_files self.old }
-        ensures names { told_names self.new ≡ names_after_load result (told_names self.old) name.now }
+        ensures names { LoadLeavesNames self.old self.new name.now result }
         ensures count { Counts (count_of self.old) (count_of self.new) (load_fault result) }
         ensures one_fault { CountsOne (count_of self.old) (count_of self.new) (load_fault result) }
         ensures fails { LoadFailsIf (is_none (map.get (files_of self.old) name.now)) result }
@@ -72,8 +72,8 @@ impl Shelf for SureShelf {
     }
 
     fn store(&mut self, name: &str, bytes: &[u8]) -> Result<(), EdgeFault>
-        ensures files { StoreLeaves (told_files self.old) (told_files self.new) name.now bytes.now result }
-        ensures names { told_names self.new ≡ names_after_store result (told_names self.old) name.now }
+        ensures files { StoreLeavesFiles self.old self.new name.now bytes.now result }
+        ensures names { StoreLeavesNames self.old self.new name.now result }
         ensures count { Counts (count_of self.old) (count_of self.new) (edge_fault result) }
         ensures fails { EdgeFailsIf false result }
     {

@@ -1,10 +1,11 @@
+use crate::streams::read_counted;
 use crate::{
     EdgeFault, FileShelf, LoadFault, MemoryShelf, MemorySink, OutSink, Shelf, Sink, SureShelf,
     SureSink,
 };
 use std::alloc::Global;
 use std::fs;
-use std::io::{self, Write};
+use std::io::{self, Read, Write};
 use std::test::Fail;
 
 fn is_answer(got: &Result<Vec<u8>, LoadFault>, want: Result<&[u8], LoadFault>) -> bool {
@@ -19,10 +20,13 @@ fn is_answer(got: &Result<Vec<u8>, LoadFault>, want: Result<&[u8], LoadFault>) -
 fn shelves_load_and_store(rt: HostRuntime) -> Result<(), Fail> {
     let alloc = rt.alloc();
     let mut sure = SureShelf::new(alloc);
-    let mut memory = MemoryShelf::new(alloc, vec![in alloc; 2u64, 6]?);
+    let mut memory = MemoryShelf::new(alloc, vec![in alloc; 2u64, 7]?);
     sure.add("a", b"abc")?;
     memory.add("a", b"ab")?;
     memory.add("a", b"abc")?;
+    sure.add("e", b"")?;
+    memory.add("e", b"")?;
+    let none: Result<&[u8], LoadFault> = Ok(b"");
     let whole: Result<&[u8], LoadFault> = Ok(b"abc");
     // A name, a limit, what the sure shelf answers and counts, and what the
     // one does whose second call fails.
@@ -38,6 +42,7 @@ fn shelves_load_and_store(rt: HostRuntime) -> Result<(), Fail> {
             1,
         ),
         ("b", 9, Err(LoadFault::Failed), 1, Err(LoadFault::Failed), 2),
+        ("e", 0, none, 1, none, 2),
     ] {
         assert!(rt;
             is_answer(&sure.load(alloc, name, limit), first),
@@ -137,21 +142,82 @@ fn a_write_of_none_is_a_fault(rt: HostRuntime) {
     assert_eq!(rt; stream.held.as_slice(), "abc".as_bytes());
 }
 
+// A stream that gives so many bytes, one a call, and then fails.
+#[derive(Drop)]
+struct Broken {
+    left: usize,
+}
+
+impl Read for Broken {
+    fn read(&mut self, buf: &mut [u8]) -> io::Result<usize> {
+        if self.left == 0 {
+            return Err(io::Error::from(io::ErrorKind::TimedOut));
+        }
+        self.left -= 1;
+        if buf.is_empty() {
+            return Ok(0);
+        }
+        buf[0] = 7;
+        Ok(1)
+    }
+}
+
+#[test]
+fn a_read_that_fails_is_a_fault(rt: HostRuntime) {
+    // How many bytes come before the failure, the limit, the answer, the count.
+    for (left, limit, answer, count) in [
+        (0usize, 9usize, LoadFault::Failed, 1u64),
+        (9, 9, LoadFault::Failed, 1),
+        (9, 8, LoadFault::TooLong, 0),
+    ] {
+        let mut faults = 0u64;
+        let read = read_counted(rt.alloc(), &mut Broken { left }, limit, &mut faults);
+        assert!(rt; is_answer(&read, Err(answer)), "{left} {limit}");
+        assert_eq!(rt; faults, count, "{left} {limit}");
+    }
+}
+
 #[test]
 fn files_are_loaded_and_stored(rt: HostRuntime) -> Result<(), Fail> {
     let alloc = rt.alloc();
     let name = "io_edge_files_are_loaded_and_stored";
-    let bytes = vec![in alloc; 7u8; 9000]?;
     let mut shelf = FileShelf::new(&rt);
-    let stored = shelf.store(name, &bytes);
-    let loaded = shelf.load(alloc, name, 9000);
-    let longer = shelf.load(alloc, name, 8999);
+    // The file is made longer, shorter and empty, and is as it was stored last.
+    for len in [9000usize, 70000, 3, 0] {
+        let bytes = vec![in alloc; 7u8; len]?;
+        assert_eq!(rt; shelf.store(name, &bytes), Ok(()), "{len}");
+        assert!(rt;
+            is_answer(&shelf.load(alloc, name, len), Ok(&bytes)),
+            "{len}"
+        );
+        let longer: Result<&[u8], LoadFault> = Err(LoadFault::TooLong);
+        let shorter: Result<&[u8], LoadFault> = Ok(&bytes);
+        let wanted = if len == 0 { shorter } else { longer };
+        assert!(rt;
+            is_answer(&shelf.load(alloc, name, len.saturating_sub(1)), wanted),
+            "{len}"
+        );
+    }
     fs::remove_file(&rt, name)?;
-    assert_eq!(rt; (stored, shelf.faults()), (Ok(()), 0));
-    assert!(rt; is_answer(&loaded, Ok(&bytes)));
-    assert!(rt; is_answer(&longer, Err(LoadFault::TooLong)));
-    assert!(rt; is_answer(&shelf.load(alloc, name, 9000), Err(LoadFault::Failed)));
-    assert_eq!(rt; shelf.store("", b"a"), Err(EdgeFault::Failed));
-    assert_eq!(rt; shelf.faults(), 2);
+    assert_eq!(rt; shelf.faults(), 0);
     Ok(())
+}
+
+#[test]
+fn what_files_refuse_is_counted(rt: HostRuntime) {
+    let alloc = rt.alloc();
+    let mut shelf = FileShelf::new(&rt);
+    // A file that isn't there, no name, and a folder.
+    for (name, count) in [("io_edge_no_such_file", 1u64), ("", 2), (".", 3)] {
+        assert!(rt;
+            is_answer(&shelf.load(alloc, name, 9), Err(LoadFault::Failed)),
+            "{name}"
+        );
+        assert_eq!(rt; shelf.faults(), count, "{name}");
+    }
+    // No name, a folder, and a device that is always full.
+    for (name, count) in [("", 4u64), (".", 5), ("/dev/full", 6)] {
+        assert_eq!(rt; shelf.store(name, b"a"), Err(EdgeFault::Failed), "{name}");
+        assert_eq!(rt; shelf.faults(), count, "{name}");
+    }
 }

@@ -9,7 +9,7 @@ use Rattle.std.proofs.lemmas.List.Elements.{All-nil, All-cons, All-weaker}
 use Rattle.std.proofs.lemmas.List.Kept.{AllPairs-cons}
 use Rattle.std.proofs.lemmas.List.Splits.{slice_split-cons_yes, slice_split-cons_no}
 use Rattle.line_core.specs.Fields.{is_blank, part_spans, fields_at, IsSpanOf}
-use Rattle.line_core.specs.Lines.{is_newline, is_comment, is_header, without_return, read_line, fault_or_lines, after_lines, lines_of, Gives, IsAbove, IsLineOf}
+use Rattle.line_core.specs.Lines.{is_newline, is_comment, is_unindented, without_return, read_line, fault_or_lines, after_lines, lines_of, Gives, IsAbove, IsLineOf}
 use Rattle.line_core.specs.Runs.{IsFieldOf}
 use Rattle.line_core.specs.declared.line_list.Line.{Line}
 use Rattle.line_core.specs.declared.line_list.LineFault.{LineFault}
@@ -58,7 +58,7 @@ chosen false false false a b made line e = absurd (grind arith)
 
 line_is : (number start : ℕ) (text bytes : List ℕ) (line : Line) → start + length text ≤ length bytes → read_line number start text ≡ Ok (Some line) → (number ≡ line.number) × IsLineOf bytes line
 line_is number start text bytes line h e =
-    let made : Line = record { number = number; header = is_header text; fields = fields_at start text } in
+    let made : Line = record { number = number; header = is_unindented text; fields = fields_at start text } in
     let c = chosen (is_comment text) _ _ _ _ made line e in
     subst (λ l. (number ≡ l.number) × IsLineOf bytes l) c.1 (refl, (some_field start text c.0, fields_within start text bytes h))
 

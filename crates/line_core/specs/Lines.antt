@@ -22,9 +22,9 @@ abbrev pub is_comment : List ℕ → Bool
 is_comment text = begins_with_star text || list_all is_blank text
 
 -- whether the first byte isn't a blank
-abbrev pub is_header : List ℕ → Bool
-is_header [] = false
-is_header (byte ∷ bytes) = not (is_blank byte)
+abbrev pub is_unindented : List ℕ → Bool
+is_unindented [] = false
+is_unindented (byte ∷ bytes) = not (is_blank byte)
 
 -- whether all bytes are from 9 to 126
 abbrev pub is_plain : List ℕ → Bool
@@ -52,7 +52,7 @@ abbrev pub read_line : ℕ → ℕ → List ℕ → Result (Option Line) LineFau
 read_line number start text =
     if is_comment text then Ok None
     else (if nat_lt max_line_bytes (length text) then Err (TooLong number)
-    else (if is_plain text then Ok (Some (record { number = number; header = is_header text; fields = fields_at start text }))
+    else (if is_plain text then Ok (Some (record { number = number; header = is_unindented text; fields = fields_at start text }))
     else Err (NotAscii number)))
 
 -- what the parts between newlines are read as: a carriage return before a newline is dropped
@@ -116,6 +116,10 @@ Gives asked read (Err fault) = IsFaultOf asked read fault
 -- whether a text asks for memory: where it is read as a line
 abbrev pub asks_memory : ℕ → ℕ → List ℕ → Bool
 asks_memory number start text = is_line (read_line number start text)
+
+-- a fault that a text is answered with: the one that it is read as, or want of memory where it asks for it
+abbrev pub IsLineFault : ℕ → ℕ → List ℕ → LineFault → Type 0
+IsLineFault number start text fault = IsFaultOf (asks_memory number start text) (read_line number start text) fault
 
 -- the answer is what a text is read as, or want of memory where it asks for it
 abbrev pub GivesLine : ℕ → ℕ → List ℕ → Result (Option Line) LineFault → Type 0

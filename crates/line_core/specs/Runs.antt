@@ -1,4 +1,5 @@
 -- what a field is: a longest run of bytes that aren't blanks
+use Rattle.std.specs.List.{Contains}
 use Rattle.std.specs.Prelude.{◌≡◌, ℕ, ◌+◌, ◌-◌, ◌<◌, ◌≤◌, true, false, List, length, slice_index}
 use Rattle.line_core.specs.Fields.{is_blank}
 use Rattle.line_core.specs.declared.field_list.Span.{Span}
@@ -21,3 +22,7 @@ IsFieldOf start text span = (start ≤ span.start) × IsRun text (span.start - s
 -- a span that ends before another begins
 abbrev pub IsBefore : Span → Span → Type 0
 IsBefore earlier later = earlier.end < later.start
+
+-- among the spans is each longest run of a text
+abbrev pub HasEachField : ℕ → List ℕ → List Span → Type 0
+HasEachField start text spans = (span : Span) → IsFieldOf start text span → Contains spans span

@@ -1,11 +1,11 @@
 ghost use Rattle.std.specs.Prelude.{◌≡◌, ◌+◌, ◌^◌, ◌++◌, ◌<◌, ◌≤◌, true, length, take, drop, position, Err, IfErr, IfOk, IfSome, OnErr, OnOk, is_some};
 ghost use Rattle.std.specs.List.{All, AllPairs};
 ghost use Rattle.std.specs.Option.{option_to_list};
-ghost use Rattle.line_core.specs.Lines.{asks_memory, field_text, is_newline, lines_of, may_want_memory, read_line, without_return, Gives, GivesLine, IsAbove, IsAdded, IsFaultOf, IsLineOf};
+ghost use Rattle.line_core.specs.Lines.{asks_memory, field_text, is_newline, lines_of, may_want_memory, read_line, without_return, Gives, GivesLine, IsAbove, IsAdded, IsFaultOf, IsLineFault, IsLineOf};
 ghost use Rattle.line_core.specs.declared.line_list.LineFault.TheVariants.{Memory};
 
 use crate::field_list::{Span, fields};
-use crate::text_kinds::{is_comment, is_header, is_plain, next_newline, without_return};
+use crate::text_kinds::{is_comment, is_plain, is_unindented, next_newline, without_return};
 use std::alloc::Global;
 use wide_num::List;
 
@@ -63,7 +63,7 @@ fn read_line(
     if !is_plain(text) {
         return Err(LineFault::NotAscii { line: number });
     }
-    let header = is_header(text);
+    let header = is_unindented(text);
     let Ok(fields) = fields(alloc, start, text) else {
         return Err(LineFault::Memory);
     };
@@ -94,7 +94,7 @@ fn add_line(
 ) -> Result<(), LineFault>
     requires { start + length text.now < 2 ^ 64 }
     ensures ok { OnOk result (IsAdded (read_line number start text.now) lines.old lines.new) }
-    ensures err { IfErr result (IsFaultOf (asks_memory number start text.now) (read_line number start text.now)) }
+    ensures err { IfErr result (IsLineFault number start text.now) }
 {
     let line = read_line(alloc, number, start, text)?;
     push_line(lines, line)

@@ -9,7 +9,7 @@ use Rattle.boxed_problem.specs.declared.parts.Side.{Side}
 use Rattle.base_words.proofs.Comparisons.{above_from_test, below_from_test}
 use Rattle.base_words.proofs.Magnitudes.{fits_from_abs}
 use Rattle.base_words.proofs.Products.{sum_times, times_one, times_order, times_sum, times_turn, zero_times}
-use Rattle.boxed_problem.proofs.Vertex.{numbers_small}
+use Rattle.boxed_problem.proofs.Narrower.{numbers_small}
 use Rattle.propagate.specs.Ranged.{high_end, low_end}
 use Rattle.propagate.specs.Tightening.{IsSteps}
 
@@ -116,7 +116,7 @@ extent_small (pos l) (negsuc u) = omega (arith, ints)
 extent_small (negsuc l) (pos u) = omega (arith, ints)
 extent_small (negsuc l) (negsuc u) = omega (arith, ints)
 
-pub extent_product_fits : (size : ℤ) (s : Side) → unsigned_abs size * reach s ≤ 2 ^ 122 → FitsSigned w128 (size *ℤ (s.upper -ℤ s.lower))
+pub extent_product_fits : (size : ℤ) (s : Side) → unsigned_abs size * reach s ≤ 2 ^ 125 → FitsSigned w128 (size *ℤ (s.upper -ℤ s.lower))
 extent_product_fits size s h =
     let a = unsigned_abs-mul size (s.upper -ℤ s.lower) in
     let b = mul-le-mul_left (unsigned_abs size) (extent_small s.lower s.upper) in
@@ -136,10 +136,10 @@ pub wider : (x : ℤ) → FitsSigned w64 x → FitsSigned w128 x
 wider x f = grind (arith, ints)
 
 -- on a side of more than one value the product bounds the number
-pub wide_small : (v : ℤ) (s : Side) → s.lower <ℤ s.upper → unsigned_abs v * reach s ≤ 2 ^ 122 → unsigned_abs v ≤ 2 ^ 122
+pub wide_small : (v : ℤ) (s : Side) → s.lower <ℤ s.upper → unsigned_abs v * reach s ≤ 2 ^ 125 → unsigned_abs v ≤ 2 ^ 125
 wide_small v s w h =
     let e : unsigned_abs (pos 0) * (reach s * reach s) ≡ 0 = grind arith in
-    (numbers_small v (pos 0) s w (omega (arith, h, e))).0
+    (numbers_small v (pos 0) s (2 ^ 125) w (omega (arith, h, e))).0
 
-pub negated_fits : (v : ℤ) (s : Side) → s.lower <ℤ s.upper → unsigned_abs v * reach s ≤ 2 ^ 122 → FitsSigned w128 (pos 0 -ℤ v)
+pub negated_fits : (v : ℤ) (s : Side) → s.lower <ℤ s.upper → unsigned_abs v * reach s ≤ 2 ^ 125 → FitsSigned w128 (pos 0 -ℤ v)
 negated_fits v s w h = fits_from_abs (pos 0 -ℤ v) (omega (arith, opposite-abs v, wide_small v s w h))

@@ -1,6 +1,7 @@
 pub mod Backing
 pub mod ClipLaws
 pub mod Mixed
+pub mod RangeLaws
 pub mod RangingLaws
 pub mod Setting
 pub mod SpanLaws

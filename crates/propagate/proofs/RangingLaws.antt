@@ -6,15 +6,15 @@ use Rattle.std.proofs.Math.Nat.{mul-le-mul_left}
 use Rattle.std.specs.Int.{w128, int_max, int_min}
 use Rattle.std.specs.List.{All, sum_by}
 use Rattle.boxed_problem.specs.Facts.{entry_at, entry_size, no_entry, row_size}
-use Rattle.boxed_problem.specs.Ranges.{high_part, low_part}
+use Rattle.propagate.specs.Ranges.{high_part, low_part}
 use Rattle.boxed_problem.specs.Sides.{reach, side_at}
 use Rattle.boxed_problem.specs.declared.parts.Entry.{Entry}
 use Rattle.boxed_problem.specs.declared.parts.Limits.{Limits}
-use Rattle.boxed_problem.specs.declared.parts.Range.{Range}
+use Rattle.propagate.specs.declared.range.Range.{Range}
 use Rattle.boxed_problem.specs.declared.parts.Side.{Side}
 use Rattle.boxed_problem.proofs.Lying.{side_reach}
 use Rattle.base_words.proofs.Magnitudes.{abs-add, fits_from_abs}
-use Rattle.boxed_problem.proofs.RangeLaws.{high_part-size, low_part-size}
+use Rattle.propagate.proofs.RangeLaws.{high_part-size, low_part-size}
 use Rattle.propagate.specs.Ranged.{AreRanges, IsInside, IsTrail, high_end, low_end, moved, no_range, range_at}
 use Rattle.propagate.specs.Spans.{IsBorder, IsSparse, place_at}
 use Rattle.propagate.specs.declared.changes.Change.{Change}

@@ -7,20 +7,20 @@ use Rattle.std.specs.List.{sum_by}
 use Rattle.boxed_problem.specs.Data.{Problem}
 use Rattle.boxed_problem.specs.Facts.{entry_at, entry_size, limit_size, limits_at, limits_size, no_entry}
 use Rattle.boxed_problem.specs.Points.{InBox}
-use Rattle.boxed_problem.specs.Ranges.{high_activity, high_part, low_activity, low_part, misses}
+use Rattle.propagate.specs.Ranges.{high_activity, high_part, low_activity, low_part, misses}
 use Rattle.boxed_problem.specs.Rows.{activity, activity_part, is_above, is_below, meets_rows}
 use Rattle.boxed_problem.specs.Optimum.{meets_all}
 use Rattle.boxed_problem.specs.Sides.{Filled, Within, reach, side_at}
 use Rattle.base_words.specs.Sums.{number_at}
 use Rattle.boxed_problem.specs.declared.parts.Entry.{Entry}
 use Rattle.boxed_problem.specs.declared.parts.Limits.{Limits}
-use Rattle.boxed_problem.specs.declared.parts.Range.{Range}
+use Rattle.propagate.specs.declared.range.Range.{Range}
 use Rattle.boxed_problem.specs.declared.parts.Side.{Side}
 use Rattle.base_words.proofs.Comparisons.{both_left, both_right, most_from_test}
 use Rattle.boxed_problem.proofs.FixingLaws.{set_within}
 use Rattle.boxed_problem.proofs.Listing.{in_on}
 use Rattle.boxed_problem.proofs.Lying.{filled_at, on_lies, side_reach, within_at, within_self, within_trans}
-use Rattle.boxed_problem.proofs.RangeLaws.{parts_hold, row_missed, rows_not_missed}
+use Rattle.propagate.proofs.RangeLaws.{parts_hold, row_missed, rows_not_missed}
 use Rattle.boxed_problem.proofs.RowTests.{row_met}
 use Rattle.propagate.specs.SparseParts.{IsOf}
 use Rattle.propagate.specs.Emptiness.{OnEmpty}

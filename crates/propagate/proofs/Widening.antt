@@ -2,13 +2,13 @@
 use Rattle.std.proofs.Common.{arith, ◌==◌, Bool, true, false, List, ℕ, pos, ◌*ℤ◌, ◌≤ℤ◌, if◌then◌else◌}
 use Rattle.std.proofs.lemmas.Int.{ints, clamps}
 use Rattle.std.specs.Int.{int_max, int_min}
-use Rattle.boxed_problem.specs.Ranges.{high_activity, high_part, low_activity, low_part}
+use Rattle.propagate.specs.Ranges.{high_activity, high_part, low_activity, low_part}
 use Rattle.boxed_problem.specs.Sides.{Within, side_at}
 use Rattle.boxed_problem.specs.declared.parts.Entry.{Entry}
 use Rattle.boxed_problem.specs.declared.parts.Side.{Side}
 use Rattle.boxed_problem.proofs.Lying.{filled_at, within_at}
 use Rattle.base_words.proofs.Products.{times_between}
-use Rattle.boxed_problem.proofs.RangeLaws.{fold_order}
+use Rattle.propagate.proofs.RangeLaws.{fold_order}
 
 -- a wider range holds the narrower one
 pub wider_low : (inner outer : List Side) (i : ℕ) (e : Entry) → Within inner outer → low_part outer i e ≤ℤ low_part inner i e

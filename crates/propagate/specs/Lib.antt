@@ -1,6 +1,7 @@
 pub mod Emptiness
+pub mod Ranged
+pub mod Ranges
 pub mod Spans
 pub mod SparseParts
-pub mod Ranged
 pub mod Tightening
 pub mod Trails

@@ -1,10 +1,10 @@
 use Rattle.std.specs.Prelude.{◌≡◌, ℕ, ◌<◌, ◌≤◌, List, length, ℤ, pos, ◌+ℤ◌, ◌-ℤ◌, ◌*ℤ◌, ◌≤ℤ◌, slice_index_or}
 use Rattle.std.specs.Int.{int_max, int_min}
 use Rattle.std.specs.List.{All}
-use Rattle.boxed_problem.specs.Ranges.{high_activity, low_activity}
+use Rattle.propagate.specs.Ranges.{high_activity, low_activity}
 use Rattle.boxed_problem.specs.Sides.{side_at}
 use Rattle.boxed_problem.specs.declared.parts.Entry.{Entry}
-use Rattle.boxed_problem.specs.declared.parts.Range.{Range}
+use Rattle.propagate.specs.declared.range.Range.{Range}
 use Rattle.boxed_problem.specs.declared.parts.Side.{Side}
 use Rattle.propagate.specs.Spans.{place_at}
 use Rattle.propagate.specs.declared.changes.Change.{Change}

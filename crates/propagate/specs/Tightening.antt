@@ -4,13 +4,13 @@ use Rattle.boxed_problem.specs.Data.{Problem}
 use Rattle.boxed_problem.specs.Facts.{entry_at, limits_at, limits_size}
 use Rattle.boxed_problem.specs.Optimum.{meets_all}
 use Rattle.boxed_problem.specs.Points.{InBox}
-use Rattle.boxed_problem.specs.Ranges.{high_activity, low_activity, misses}
+use Rattle.propagate.specs.Ranges.{high_activity, low_activity, misses}
 use Rattle.boxed_problem.specs.Rows.{meets_rows}
 use Rattle.boxed_problem.specs.Sides.{Within, reach, side_at}
 use Rattle.base_words.specs.Sums.{number_at}
 use Rattle.boxed_problem.specs.declared.parts.Entry.{Entry}
 use Rattle.boxed_problem.specs.declared.parts.Limits.{Limits}
-use Rattle.boxed_problem.specs.declared.parts.Range.{Range}
+use Rattle.propagate.specs.declared.range.Range.{Range}
 use Rattle.boxed_problem.specs.declared.parts.Side.{Side}
 use Rattle.propagate.specs.Ranged.{IsInside, high_end, low_end}
 use Rattle.propagate.specs.Trails.{KeepsAllMarks}

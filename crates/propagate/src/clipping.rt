@@ -16,7 +16,7 @@ fn extent(side: Side) -> i128
 /// Whether so many times the extent of a side is at most a slack.
 fn is_slack(side: Side, size: i128, slack: i128) -> bool
     requires filled { side.lower ≤ℤ side.upper }
-    requires fits { unsigned_abs size * reach side ≤ 2 ^ 122 }
+    requires fits { unsigned_abs size * reach side ≤ 2 ^ 125 }
     ensures { IsTrue result ↔ ((size *ℤ (side.upper -ℤ side.lower)) ≤ℤ slack) }
 {
     size * extent(side) <= slack
@@ -57,7 +57,7 @@ fn go_down(side: Side, steps: i128) -> i64
 fn keep_low(side: Side, size: i128, slack: i128) -> Side
     requires filled { side.lower ≤ℤ side.upper }
     requires size { pos 0 <ℤ size }
-    requires fits { unsigned_abs size * reach side ≤ 2 ^ 122 }
+    requires fits { unsigned_abs size * reach side ≤ 2 ^ 125 }
     requires slack { pos 0 ≤ℤ slack }
     ensures inside { IsInside result side }
     ensures lower { result.lower ≡ side.lower }
@@ -77,7 +77,7 @@ fn keep_low(side: Side, size: i128, slack: i128) -> Side
 fn keep_high(side: Side, size: i128, slack: i128) -> Side
     requires filled { side.lower ≤ℤ side.upper }
     requires size { pos 0 <ℤ size }
-    requires fits { unsigned_abs size * reach side ≤ 2 ^ 122 }
+    requires fits { unsigned_abs size * reach side ≤ 2 ^ 125 }
     requires slack { pos 0 ≤ℤ slack }
     ensures inside { IsInside result side }
     ensures upper { result.upper ≡ side.upper }
@@ -97,7 +97,7 @@ fn keep_high(side: Side, size: i128, slack: i128) -> Side
 /// the least one.
 pub fn cut_above(side: Side, value: i128, slack: i128) -> Side
     requires wide { side.lower <ℤ side.upper }
-    requires fits { unsigned_abs value * reach side ≤ 2 ^ 122 }
+    requires fits { unsigned_abs value * reach side ≤ 2 ^ 125 }
     requires slack { pos 0 ≤ℤ slack }
     ensures { KeepsAbove value side slack result }
 {
@@ -114,7 +114,7 @@ pub fn cut_above(side: Side, value: i128, slack: i128) -> Side
 /// the greatest one.
 pub fn cut_below(side: Side, value: i128, slack: i128) -> Side
     requires wide { side.lower <ℤ side.upper }
-    requires fits { unsigned_abs value * reach side ≤ 2 ^ 122 }
+    requires fits { unsigned_abs value * reach side ≤ 2 ^ 125 }
     requires slack { pos 0 ≤ℤ slack }
     ensures { KeepsBelow value side slack result }
 {

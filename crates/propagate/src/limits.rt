@@ -3,7 +3,8 @@ ghost use Rattle.boxed_problem.specs.Facts.{entry_at};
 ghost use Rattle.propagate.specs.Tightening.{IsCut, IsReady};
 
 use crate::clipping::{cut_above, cut_below};
-use boxed_problem::{Entry, Limits, Range, Side};
+use crate::range::Range;
+use boxed_problem::{Entry, Limits, Side};
 
 /// The side of an entry's column that its row's upper limit leaves, where the
 /// row's range lies in this one.

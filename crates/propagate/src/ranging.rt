@@ -2,8 +2,9 @@ ghost use Rattle.std.specs.Prelude.{◌≡◌, ℕ, ◌*◌, ◌+ℤ◌, ◌-ℤ
 ghost use Rattle.boxed_problem.specs.Sides.{reach, side_at};
 ghost use Rattle.propagate.specs.Ranged.{AreRanges, IsInside, high_end, low_end, moved};
 
+use crate::range::Range;
 use crate::sparse::Sparse;
-use boxed_problem::{Range, Side};
+use boxed_problem::Side;
 use wide_num::List;
 
 /// A product that fits.

@@ -6,8 +6,10 @@ ghost use Rattle.propagate.specs.Tightening.{HoldsNone, HoldsSame, IsCut, IsRead
 
 use crate::fault::Empty;
 use crate::limits::{above_limit, below_limit};
+use crate::range::Range;
+use crate::row_ranges::{is_missed, row_range};
 use crate::tightening::is_free;
-use boxed_problem::{Boxed, Range, Side, is_missed, row_range};
+use boxed_problem::{Boxed, Side};
 use wide_num::List;
 
 /// How often all rows are gone through at most. It stops slow creeping over

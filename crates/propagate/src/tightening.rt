@@ -1,15 +1,17 @@
 ghost use Rattle.std.specs.Prelude.{◌≡◌, ◌<◌, true, false, IfOk, OnOk, OnErr, length, slice_set};
 ghost use Rattle.boxed_problem.specs.Facts.{entry_at, limits_at};
-ghost use Rattle.boxed_problem.specs.Ranges.{high_activity, low_activity, misses};
+ghost use Rattle.propagate.specs.Ranges.{high_activity, low_activity, misses};
 ghost use Rattle.boxed_problem.specs.Sides.{side_at};
 ghost use Rattle.propagate.specs.Ranged.{IsInside};
 ghost use Rattle.propagate.specs.Tightening.{IsCut, MissesRow, Tightens};
 ghost use Rattle.propagate.specs.Trails.{IsAsBefore, KeepsAllMarks};
 
 use crate::limits::{above_limit, below_limit};
+use crate::range::Range;
+use crate::row_ranges::is_missed;
 use crate::sparse::Sparse;
 use crate::trail::Trail;
-use boxed_problem::{Limits, Range, Side, is_met, is_missed};
+use boxed_problem::{Limits, Side, is_met};
 use std::alloc::AllocError;
 
 /// Whether the range of a row misses its limits.

@@ -3,8 +3,9 @@ ghost use Rattle.propagate.specs.Ranged.{IsTrail};
 
 use crate::changes::Change;
 use crate::queue::Queue;
+use crate::range::Range;
 use crate::sparse::Sparse;
-use boxed_problem::{Range, Side};
+use boxed_problem::Side;
 use std::snapshot::Snapshot;
 use wide_num::List;
 

@@ -1,6 +1,6 @@
 ghost use Rattle.std.specs.Prelude.{◌≡◌, ℕ, ◌+◌, ◌<◌, ◌≤◌, [], IfOk, OnOk, OnErr, length, slice_set};
 ghost use Rattle.boxed_problem.specs.Data.{problem_of};
-ghost use Rattle.boxed_problem.specs.Ranges.{high_activity, low_activity};
+ghost use Rattle.propagate.specs.Ranges.{high_activity, low_activity};
 ghost use Rattle.boxed_problem.specs.Sides.{side_at};
 ghost use Rattle.propagate.specs.Ranged.{AreRanges, IsInside};
 ghost use Rattle.propagate.specs.Spans.{place_at};
@@ -9,10 +9,12 @@ ghost use Rattle.propagate.specs.Trails.{IsAsBefore, KeepsAllMarks, KeepsMarks, 
 
 use crate::changes::Change;
 use crate::queue::{Queue, add, full_queue};
+use crate::range::Range;
 use crate::ranging::shift;
+use crate::row_ranges::row_range;
 use crate::sparse::Sparse;
 use crate::trail::Trail;
-use boxed_problem::{Boxed, Range, Side, row_range};
+use boxed_problem::{Boxed, Side};
 use std::alloc::{AllocError, Global};
 use std::snapshot::Snapshot;
 use wide_num::List;

@@ -1,4 +1,6 @@
-ghost use Rattle.std.specs.Prelude.{◌≡◌, ◌+◌, ◌*◌, ◌^◌, ◌≤◌, ◌≤ℤ◌, IfSome, true, pos, unsigned_abs};
+ghost use Rattle.std.specs.Prelude.{◌≡◌, ◌+◌, ◌*◌, ◌^◌, ◌≤◌, ◌≤ℤ◌, ◌↔◌, IfSome, IsTrue, true, pos, unsigned_abs};
+ghost use Rattle.boxed_problem.specs.Facts.{limit_size, limits_size};
+ghost use Rattle.boxed_problem.specs.PriceFit.{HasSign};
 ghost use Rattle.boxed_problem.specs.Sides.{reach};
 ghost use Rattle.safe_bound.specs.Leasts.{least_on};
 
@@ -18,7 +20,7 @@ pub fn side_reach(side: Side) -> u128
 }
 
 /// The magnitude of what a column adds, or none where that leaves 128 bits.
-fn part_size(line: i128, square: i128, side: Side) -> Option<u128>
+pub fn part_size(line: i128, square: i128, side: Side) -> Option<u128>
     ensures { IfSome result (λ r. r ≡ unsigned_abs line * reach side + unsigned_abs square * (reach side * reach side)) }
 {
     let far = side_reach(side);
@@ -41,8 +43,10 @@ pub fn column_part(line: i128, square: i128, side: Side) -> Option<i128>
 }
 
 /// Whether a row's limits allow a price of this sign.
-pub fn is_allowed(limits: Limits, price: i128) -> bool {
-    (price <= 0 || limits.lower.is_some()) && (price >= 0 || limits.upper.is_some())
+pub fn is_allowed(limits: Limits, price: i128) -> bool
+    ensures { IsTrue result ↔ HasSign limits price }
+{
+    (price >= 0 || limits.upper.is_some()) && (price <= 0 || limits.lower.is_some())
 }
 
 /// The price times the limit that it pays for, or none where that leaves 128 bits.
@@ -56,7 +60,9 @@ pub fn limit_part(limits: Limits, price: i128) -> Option<i128> {
 }
 
 /// The magnitude of a limit, 0 where there is none.
-fn limit_reach(limit: Option<i128>) -> u128 {
+fn limit_reach(limit: Option<i128>) -> u128
+    ensures { result ≡ limit_size limit }
+{
     match limit {
         Some(limit) => limit.unsigned_abs(),
         None => 0,
@@ -64,6 +70,10 @@ fn limit_reach(limit: Option<i128>) -> u128 {
 }
 
 /// The greater magnitude of a row's limits.
-pub fn limits_reach(limits: Limits) -> u128 {
-    limit_reach(limits.lower).max(limit_reach(limits.upper))
+pub fn limits_reach(limits: Limits) -> u128
+    ensures { result ≡ limits_size limits }
+{
+    let lower = limit_reach(limits.lower);
+    let upper = limit_reach(limits.upper);
+    if lower < upper { upper } else { lower }
 }

@@ -172,3 +172,28 @@ fn improves_upper_and_equal(rt: HostRuntime) -> Result<(), Fail> {
     )?;
     Ok(())
 }
+
+#[test]
+fn improves_several_rows(rt: HostRuntime) -> Result<(), Fail> {
+    let alloc = rt.alloc();
+    let made = problem(
+        alloc,
+        &[(0, 10), (0, 10), (0, 10)],
+        &[
+            (Some(3), None),
+            (None, Some(2)),
+            (Some(4), Some(4)),
+            (None, None),
+        ],
+        &[(0, 0, 1), (3, 0, 5), (1, 1, 1), (2, 2, 2), (3, 2, 1)],
+        0,
+        &[(5, 0), (-4, 0), (6, 0)],
+    )?;
+    let several = made.expect(&rt, "a problem");
+    for values in [[0, 0, 0, 0], [9, -9, -5, 0]] {
+        let mut prices = prices(alloc, 1, &values)?;
+        check(&rt, &several, &several.columns, &mut prices, 1, 19)?;
+        assert_eq!(rt; prices.values.as_slice(), [5, -4, 3, 0].as_slice());
+    }
+    Ok(())
+}

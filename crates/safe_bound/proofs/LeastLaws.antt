@@ -11,9 +11,9 @@ use Rattle.boxed_problem.specs.Sides.{Within, corner, reach, side_at}
 use Rattle.base_words.specs.Sums.{number_at, size_below, sum_below}
 use Rattle.boxed_problem.specs.declared.parts.Side.{Side}
 use Rattle.boxed_problem.specs.Data.{Problem}
-use Rattle.boxed_problem.proofs.Halving.{Single, single_at}
 use Rattle.boxed_problem.proofs.Listing.{count_is}
-use Rattle.boxed_problem.proofs.Lying.{Lies, corner_at, filled_at, within_reach}
+use Rattle.boxed_problem.proofs.Narrower.{column_size-within}
+use Rattle.boxed_problem.proofs.Lying.{Lies, Single, single_at, corner_at, filled_at, within_reach}
 use Rattle.base_words.proofs.Magnitudes.{abs-add, abs_between, fits_from_abs}
 use Rattle.boxed_problem.proofs.Magnitudes.{abs-curve, curve_size}
 use Rattle.base_words.proofs.SumBounds.{size_below-le, sum_below-abs}
@@ -101,20 +101,6 @@ single_least b box h =
         let d = single_at box h j in
         least_on-holds (λ z. value_part b.line b.square (corner box) j ≤ℤ z) (number_at b.line j) (number_at b.square j) (side_at box j) (omega (arith, ints, d))
         (λ x l u. let same : number_at (corner box) j ≡ x = omega (arith, ints, e, d) in let c = ap (curve (number_at b.line j) (number_at b.square j)) same in omega (arith, ints, c))
-
--- the parts of narrower sides are within those of the problem's
-pub column_size-within : (inner outer : List Side) (line square : List ℤ) (j : ℕ) → Within inner outer → column_size inner line square j ≤ column_size outer line square j
-column_size-within inner outer line square j w =
-    let r = within_reach inner outer w j in
-    let p = mul-le-mul_left (unsigned_abs (number_at line j)) r in
-    let s = mul-le-mul r r in
-    let q = mul-le-mul_left (unsigned_abs (number_at square j)) s in
-    omega (arith, p, q)
-
-pub column_size-le : (columns : List Side) (constant : ℤ) (line square : List ℤ) (j : ℕ) → j < length columns → column_size columns line square j ≤ value_size columns constant line square
-column_size-le columns constant line square j h =
-    let p : size_below (suc j) (column_size columns line square) ≤ size_below (length columns) (column_size columns line square) = size_below-le (suc j) (length columns) (column_size columns line square) (omega arith) in
-    omega (arith, p)
 
 -- the constant and the first leasts fit
 pub least_fits_upto : (columns : List Side) (constant : ℤ) (line square : List ℤ) (box : List Side) (j : ℕ) → Within box columns → j ≤ length columns → value_size columns constant line square ≤ 2 ^ 125 →

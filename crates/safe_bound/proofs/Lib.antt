@@ -6,3 +6,4 @@ pub mod PriceLaws
 pub mod RunLaws
 pub mod PriceSizes
 pub mod ReducedLaws
+pub mod UnderLaws

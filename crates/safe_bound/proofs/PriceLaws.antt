@@ -153,7 +153,7 @@ sum_below-most zero f g h = omega (arith, ints)
 sum_below-most (suc n) f g h = omega (arith, ints, h n (omega arith), sum_below-most n f g (λ k l. h k (omega arith)))
 
 -- what is paid for the limits is at most what is paid for the activities
-limits_below : (b : Problem) (prices : Prices) (x : List ℤ) → ((i : ℕ) → i < length b.rows → HasSign (limits_at b.rows i) (number_at prices.values i)) → Feasible b x →
+pub limits_below : (b : Problem) (prices : Prices) (x : List ℤ) → ((i : ℕ) → i < length b.rows → HasSign (limits_at b.rows i) (number_at prices.values i)) → Feasible b x →
     limit_sum b prices ≤ℤ priced_activity b prices x
 limits_below b prices x s f =
     sum_below-most (length b.rows) (limit_price b prices) (λ i. number_at prices.values i *ℤ activity b.entries x i)

@@ -25,22 +25,15 @@ use Rattle.safe_bound.specs.PriceBound.{entry_price, limit_number, limit_price, 
 use Rattle.safe_bound.specs.Reducing.{kept_cost, kept_square, reduced_constant}
 use Rattle.safe_bound.proofs.KeyedSums.{by_key_size, list_sum, size_below-add, size_below-same, size_below-times, sum_by-same, sum_by-times}
 use Rattle.safe_bound.proofs.LeastLaws.{least_on-size}
+use Rattle.safe_bound.specs.PriceWeights.{limit_weight, weight}
 use Rattle.safe_bound.proofs.WideFits.{abs-less}
 
 abbrev pub Placed : Problem → Type 0
 Placed b = All (λ e. (e.row < length b.rows) × (e.column < length b.columns)) b.entries
 
--- the magnitude of what an entry costs at any point of the box
-abbrev pub weight : Problem → Prices → Entry → ℕ
-weight b prices e = unsigned_abs (number_at prices.values e.row) * (unsigned_abs e.value * reach (side_at b.columns e.column))
-
 -- the magnitude of what column j adds to the scale times the objective and to the prices
 abbrev pub column_weight : Problem → Prices → ℕ → ℕ
 column_weight b prices j = unsigned_abs prices.scale * column_size b.columns b.line b.square j + sum_by (λ (e : Entry). if e.column == j then weight b prices e else 0) b.entries
-
--- the magnitude of what row i's limits add
-abbrev pub limit_weight : Problem → Prices → ℕ → ℕ
-limit_weight b prices i = unsigned_abs (number_at prices.values i) * limits_size (limits_at b.rows i)
 
 -- the magnitude of the price of one unit of column j
 abbrev pub unit_size : Problem → Prices → ℕ → ℕ
@@ -58,7 +51,7 @@ row_weight b prices i =
         sym (ap (λ k. unsigned_abs (number_at prices.values k) * (unsigned_abs e.value * reach (side_at b.columns e.column))) same)
     by_test e false h = omega arith
 
-rows_weigh : (b : Problem) (prices : Prices) → Placed b → size_below (length b.rows) (price_part b prices) ≡ size_below (length b.rows) (limit_weight b prices) + sum_by (weight b prices) b.entries
+pub rows_weigh : (b : Problem) (prices : Prices) → Placed b → size_below (length b.rows) (price_part b prices) ≡ size_below (length b.rows) (limit_weight b prices) + sum_by (weight b prices) b.entries
 rows_weigh b prices h =
     let m = length b.rows in
     let entries : ℕ → ℕ = λ i. sum_by (λ (e : Entry). if e.row == i then weight b prices e else 0) b.entries in

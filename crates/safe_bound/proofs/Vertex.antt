@@ -64,21 +64,6 @@ vertex_is line k h =
     let c = *ℤ_comm v (pos k) in
     record { low = omega (arith, ints, f.0, p, c); high = omega (arith, ints, f.1, p, c) }
 
--- on a side of more than one value the magnitudes bound the numbers themselves
-pub numbers_small : (line square : ℤ) (s : Side) → s.lower <ℤ s.upper → unsigned_abs line * reach s + unsigned_abs square * (reach s * reach s) ≤ 2 ^ 125 → (unsigned_abs line ≤ 2 ^ 125) × (unsigned_abs square ≤ 2 ^ 125)
-numbers_small line square s h f =
-    let one' = wide s.lower s.upper h in
-    let p = mul-le-mul_left (unsigned_abs line) one' in
-    let sq = mul-le-mul one' one' in
-    let q = mul-le-mul_left (unsigned_abs square) sq in
-    (omega (arith, p, q), omega (arith, p, q))
-  where
-    wide : (l u : ℤ) → l <ℤ u → 1 ≤ max (unsigned_abs l) (unsigned_abs u)
-    wide (pos l) (pos u) h = omega (arith, ints)
-    wide (pos l) (negsuc u) h = omega (arith, ints)
-    wide (negsuc l) (pos u) h = omega (arith, ints)
-    wide (negsuc l) (negsuc u) h = omega (arith, ints)
-
 -- how far apart two places are
 distance : (y z : ℤ) → y ≤ℤ z → z ≡ (y +ℤ pos (unsigned_abs (z -ℤ y)))
 distance y z h = omega (arith, ints, natural (z -ℤ y) (omega (arith, ints)))

@@ -15,4 +15,4 @@ pub use bounding::{bound, price_total};
 pub use law::price_bound;
 pub use least_values::{column_least, least_value};
 pub use reduced::Reduced;
-pub use reducing::{bound_from, reduce_by};
+pub use reducing::{bound_from, reduce_by, total_from};

@@ -5,7 +5,7 @@ ghost use Rattle.boxed_problem.specs.PriceFit.{FitsPrices};
 ghost use Rattle.boxed_problem.specs.Sides.{Within};
 ghost use Rattle.boxed_problem.specs.declared.parts.Prices.{Prices};
 ghost use Rattle.safe_bound.specs.PriceBound.{IsPriceBound};
-ghost use Rattle.safe_bound.specs.ReducedOf.{IsReduced, reduced_total};
+ghost use Rattle.safe_bound.specs.ReducedOf.{IsReduced, IsUnder, reduced_total};
 
 use crate::costs::{kept_cost, reduced_constant, run_end};
 use crate::least_values::column_least;
@@ -24,7 +24,8 @@ fn copy(sides: &List<Side>) -> Result<List<Side>, AllocError>
 /// The problem with the prices taken into its objective.
 pub fn reduce_by(problem: &Boxed, prices: &Prices) -> Result<Reduced, AllocError>
     requires { FitsPrices (problem_of problem.now) prices.now }
-    ensures { IfOk result (λ r. IsReduced (problem_of problem.now) prices.now r) }
+    ensures is { IfOk result (λ r. IsReduced (problem_of problem.now) prices.now r) }
+    ensures under { IfOk result (λ r. IsUnder (problem_of problem.now) r) }
 {
     let entries = problem.entries.as_slice();
     let columns = copy(&problem.columns)?;
@@ -47,12 +48,11 @@ pub fn reduce_by(problem: &Boxed, prices: &Prices) -> Result<Reduced, AllocError
     })
 }
 
-/// The bound over the sides, which lie in the box of the problem that was
-/// reduced: the same number as `bound` gives for that problem and its prices.
-pub fn bound_from(reduced: &Reduced, sides: &List<Side>) -> i128
+/// The reduced constant and the columns' leasts over the sides, which lie in
+/// the box of the problem that was reduced.
+pub fn total_from(reduced: &Reduced, sides: &List<Side>) -> i128
     requires { Within sides.now reduced.now.columns }
-    ensures number { IsCeiling (reduced_total reduced.now sides.now) reduced.now.scale result }
-    ensures bound { (b : Problem) (prices : Prices) → IsReduced b prices reduced.now → IsPriceBound b prices sides.now result }
+    ensures { result ≡ reduced_total reduced.now sides.now }
 {
     let line = reduced.line.as_slice();
     let square = reduced.square.as_slice();
@@ -61,5 +61,15 @@ pub fn bound_from(reduced: &Reduced, sides: &List<Side>) -> i128
     for j in 0..box_sides.len() {
         total += column_least(line[j], square[j], box_sides[j]);
     }
-    ceil_div(total, reduced.scale)
+    total
+}
+
+/// The bound over the sides, which lie in the box of the problem that was
+/// reduced: the same number as `bound` gives for that problem and its prices.
+pub fn bound_from(reduced: &Reduced, sides: &List<Side>) -> i128
+    requires { Within sides.now reduced.now.columns }
+    ensures number { IsCeiling (reduced_total reduced.now sides.now) reduced.now.scale result }
+    ensures bound { (b : Problem) (prices : Prices) → IsReduced b prices reduced.now → IsPriceBound b prices sides.now result }
+{
+    ceil_div(total_from(reduced, sides), reduced.scale)
 }

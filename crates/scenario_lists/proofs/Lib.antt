@@ -1,8 +1,9 @@
 pub mod Agreement
 pub mod Apart
-pub mod Capping
 pub mod Digits
+pub mod Keeping
 pub mod Marks
+pub mod Nesting
 pub mod Distinctness
 pub mod Order
 pub mod Rows

@@ -1,4 +1,5 @@
-pub mod Capped
 pub mod Combinations
 pub mod Distinct
+pub mod Kept
+pub mod Nesting
 pub mod ScenarioList

@@ -8,7 +8,7 @@ use Rattle.smps_stoch.specs.declared.stoch.Element.{Element}
 use Rattle.smps_stoch.specs.declared.stoch.Stoch.{Stoch}
 use Rattle.smps_stoch.specs.declared.stoch.Stoch.TheVariants.{Product, Scenarios}
 use Rattle.tree_core.specs.Marks.{mark_of}
-use Rattle.scenario_lists.specs.Capped.{capped}
+use Rattle.capped_num.specs.Capped.{capped}
 use Rattle.scenario_lists.specs.Combinations.{choices_of, combinations, entries_in, mark_in, weight_below}
 use Rattle.scenario_lists.specs.Distinct.{first_of_each}
 use Rattle.scenario_lists.specs.declared.data.ScenarioData.{ScenarioData}

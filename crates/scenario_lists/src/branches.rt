@@ -4,9 +4,9 @@ ghost use Rattle.stoch_lines.specs.Faults.{max_scenarios};
 ghost use Rattle.smps_stoch.specs.StochFacts.{IsEarlier};
 ghost use Rattle.scenario_lists.specs.ScenarioList.{AreRows, HaveParents, branch_marks, branch_scenarios, inherited, inherited_mark, mark_beside, marks_beside, scenario_beside};
 
-use crate::capped::capped_product;
 use crate::data::ScenarioData;
 use crate::distinct::first_of_each;
+use capped_num::capped_product;
 use smps_stoch::{Branch, StochEntry};
 use std::alloc::{AllocError, Global};
 use std::cmp;

@@ -1,10 +1,14 @@
-ghost use Rattle.std.specs.Prelude.{◌≡◌, ◌↔◌, ℕ, ◌<◌, List, false, length, map, slice_index_or};
+ghost use Rattle.std.specs.Prelude.{◌≡◌, ◌↔◌, ℕ, ◌<◌, ◌≤◌, List, false, length, map, slice_index_or};
 ghost use Rattle.std.specs.List.{AllPairs, range_with_len};
 ghost use Rattle.stoch_lines.specs.Places.{same_place};
 ghost use Rattle.stoch_lines.specs.declared.places.StochEntry.{StochEntry};
 ghost use Rattle.smps_stoch.specs.declared.stoch.Element.{Element};
+ghost use Rattle.smps_stoch.specs.declared.stoch.Stoch.{Stoch};
+ghost use Rattle.tree_core.specs.Marks.{AreNested, mark_of};
 ghost use Rattle.scenario_lists.specs.Combinations.{Agree, all_choices, choices_of, combinations, mark_in};
 ghost use Rattle.scenario_lists.specs.Distinct.{first_of_each};
+ghost use Rattle.scenario_lists.specs.Nesting.{HavePeriods};
+ghost use Rattle.scenario_lists.specs.ScenarioList.{HaveAllParents, count_of, marks_of};
 
 /// The combinations, by their numbers, are all choices in order: those that
 /// begin with the first realisation of the first element, then those that begin
@@ -22,4 +26,14 @@ pub fn marks_of_agreeing()
 /// No two entries of a scenario are of one place.
 pub fn places_differ()
     ensures { (entries : List StochEntry) → AllPairs (λ e f. same_place e.place f.place ≡ false) (first_of_each entries) }
+{}
+
+/// Scenarios that have the same mark at a stage have the same one at the stage
+/// before, and no two have the same mark at the last stage. There is one list of
+/// marks for each scenario.
+pub fn marks_branch()
+    ensures nested { (stages : ℕ) (stoch : Stoch) → HaveAllParents stoch → AreNested stages (marks_of stages stoch) }
+    ensures apart { (stages : ℕ) (stoch : Stoch) → 1 ≤ stages → HavePeriods stages stoch → (s u : ℕ) → s < count_of stoch → u < count_of stoch →
+        mark_of (marks_of stages stoch) stages s ≡ mark_of (marks_of stages stoch) stages u → s ≡ u }
+    ensures long { (stages : ℕ) (stoch : Stoch) → length (marks_of stages stoch) ≡ count_of stoch }
 {}

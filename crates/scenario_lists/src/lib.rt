@@ -4,7 +4,6 @@
 #![tactic(auto)]
 
 mod branches;
-mod capped;
 mod choices;
 mod counting;
 mod data;
@@ -14,10 +13,9 @@ mod listing;
 mod marking;
 mod products;
 
-pub use capped::{capped_product, capped_sum};
 pub use counting::{MAX_SCENARIOS, TooMany, scenario_count};
 pub use data::ScenarioData;
-pub use laws::{combinations_in_order, marks_of_agreeing, places_differ};
+pub use laws::{combinations_in_order, marks_branch, marks_of_agreeing, places_differ};
 pub use listing::{scenario_marks, scenarios};
 
 #[cfg(test)]

@@ -1,12 +1,12 @@
 ghost use Rattle.std.specs.Prelude.{◌≡◌, ◌++◌, ◌+◌, ◌<◌, IfOk, OnOk, length};
-ghost use Rattle.scenario_lists.specs.Capped.{capped};
+ghost use Rattle.capped_num.specs.Capped.{capped};
 ghost use Rattle.scenario_lists.specs.Combinations.{AreChoices, entries_at, entries_in};
 ghost use Rattle.scenario_lists.specs.ScenarioList.{scenario_in, weight_in};
 
-use crate::capped::capped_product;
 use crate::choices::{chosen_at, realisations_at};
 use crate::data::ScenarioData;
 use crate::distinct::first_of_each;
+use capped_num::capped_product;
 use smps_stoch::{Element, StochEntry};
 use std::alloc::{AllocError, Global};
 use wide_num::List;

@@ -1,4 +1,6 @@
 -- What an accepted core file's lines say fits together: the pairs' rows are there, and no box is empty.
+use Rattle.smps_words.proofs.Asking.{lines_ask}
+use Rattle.smps_words.specs.Memory.{MayRefuse}
 use Rattle.std.proofs.Common.{◌≡◌, refl, sym, subst, ap, ◌∙◌, ℕ, ◌+◌, ◌≤◌, ◌<◌, ◌==◌, Bool, true, false, List, [], ◌∷◌, ◌++◌, length, take, get_or, append_assoc, length-append, arith}
 use Rattle.std.specs.Prelude.{◌&&◌, not, if◌then◌else◌, Option, Some, None, Result, Ok, Err, IfOk, IfSome, option_map, nat_lt, unwrap_or}
 use Rattle.std.specs.List.{All}
@@ -24,7 +26,7 @@ use Rattle.core_lines.specs.Boxes.{has_empty_box}
 use Rattle.core_lines.specs.ColumnLines.{cell_for, cell_in, cells_in, columns_next, has_second, is_marker}
 use Rattle.core_lines.specs.Headers.{header_fault, is_bounds, is_columns, is_ending, is_in_place, is_name, is_rows, is_sense, section_of_word}
 use Rattle.core_lines.specs.Lines.{before_of, data_fault, is_end, is_within, line_fault, next}
-use Rattle.core_lines.specs.Meaning.{fault_behind, meaning, outcome_of, said_by_read}
+use Rattle.core_lines.specs.Meaning.{fault_behind, meaning, outcome_of, said_by_read, said_by}
 use Rattle.core_lines.specs.Parts.{Before, BoundsSaid, ColumnsSaid, RowsSaid}
 use Rattle.core_lines.specs.RowLines.{names_in, place_of, rows_next}
 use Rattle.core_lines.specs.declared.cells.Cell.{Cell}
@@ -33,7 +35,7 @@ use Rattle.core_lines.specs.declared.kinds.CoreKind.TheVariants as kinds
 use Rattle.smps_core.specs.CoreMeaning.{FitsTogether}
 
 -- from no line on, one line more at a time
-by_lines : (P : List TextLine → Type 0) → ((xs : List TextLine) (x : TextLine) → P xs → P (xs ++ x ∷ [])) → (before rest : List TextLine) → P before → P (before ++ rest)
+pub by_lines : (P : List TextLine → Type 0) → ((xs : List TextLine) (x : TextLine) → P xs → P (xs ++ x ∷ [])) → (before rest : List TextLine) → P before → P (before ++ rest)
 by_lines P step before [] base = subst P (sym (append-nil before)) base
 by_lines P step before (x ∷ rest) base = subst P (append_assoc before (x ∷ []) rest) (by_lines P step (before ++ x ∷ []) rest (step before x base))
 
@@ -149,3 +151,17 @@ by_read bytes (Err line_faults.Memory) said is = absurd cc
 
 pub fits_together : (bytes : List ℕ) (said : Before) → meaning bytes ≡ Ok said → FitsTogether said
 fits_together bytes said is = by_read bytes (lines_of bytes) said is
+
+-- an accepted file has lines, and so asks for memory
+asked_for : (bytes : List ℕ) (lines : List Line) (said : Before) → lines_of bytes ≡ Ok lines → said_by (text_lines bytes lines) ≡ Ok said → MayRefuse bytes
+asked_for bytes [] said is reads = absurd cc
+asked_for bytes (line ∷ lines) said is reads = lines_ask bytes (line ∷ lines) is (omega arith)
+
+asked_by : (bytes : List ℕ) (r : Result (List Line) LineFault) (said : Before) → lines_of bytes ≡ r → said_by_read bytes r ≡ Ok said → MayRefuse bytes
+asked_by bytes (Ok lines) said is reads = asked_for bytes lines said is reads
+asked_by bytes (Err (line_faults.NotAscii line)) said is reads = absurd cc
+asked_by bytes (Err (line_faults.TooLong line)) said is reads = absurd cc
+asked_by bytes (Err line_faults.Memory) said is reads = absurd cc
+
+pub accepted_asks : (bytes : List ℕ) (said : Before) → meaning bytes ≡ Ok said → MayRefuse bytes
+accepted_asks bytes said is = asked_by bytes (lines_of bytes) said refl is

@@ -3,4 +3,5 @@ pub mod CoreMeaning
 pub mod Entries
 pub mod Joining
 pub mod Laws
+pub mod NameOrder
 pub mod Rows

@@ -25,11 +25,11 @@ fn push_entry(entries: &mut List<CoreEntry>, cell: Cell) -> Result<(), AllocErro
     })
 }
 
-// The entries in the order of their lines.
+// The entries in the order of their lines, in room that is made at once.
 fn entries_in(alloc: Global, cells: &[Cell]) -> Result<List<CoreEntry>, AllocError>
     ensures { IfOk result (λ entries. entries ≡ entries_of cells.now) }
 {
-    let mut entries = List::new(alloc);
+    let mut entries = List::from_vec(Vec::with_capacity(alloc, cells.len())?);
     for cell in cells {
         push_entry(&mut entries, *cell)?;
     }

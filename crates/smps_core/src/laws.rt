@@ -4,11 +4,14 @@ ghost use Rattle.std.specs.List.{Contains};
 ghost use Rattle.smps_words.specs.TextLines.{TextLine};
 ghost use Rattle.smps_words.specs.declared.core_data.CoreEntry.{CoreEntry};
 ghost use Rattle.core_lines.specs.Boxes.{lower_of, upper_of};
-ghost use Rattle.core_lines.specs.Lines.{cells_of};
+ghost use Rattle.smps_words.specs.Outcomes.Outcome.{Ended};
+ghost use Rattle.core_lines.specs.Lines.{cells_of, column_names_of, rows_of};
+ghost use Rattle.core_lines.specs.Meaning.{outcome_of};
 ghost use Rattle.core_lines.specs.declared.cells.Bound.{Bound};
 ghost use Rattle.core_lines.specs.declared.cells.Cell.{Cell};
 ghost use Rattle.smps_core.specs.CoreData.{AreEntriesOf};
 ghost use Rattle.smps_core.specs.Laws.{BothWays, IsSaid, MovesLower, MovesUpper, cell_at};
+ghost use Rattle.smps_core.specs.NameOrder.{AreInOrder, column_given, row_given};
 
 /// A pair of row and value is among what the lines say exactly where a column's
 /// line of COLUMNS has it, behind the lines before that line. A pair of an
@@ -30,4 +33,13 @@ pub fn boxes_law()
     ensures endless { (j : ℕ) → upper_of [] j ≡ None }
     ensures lower { (bounds : List Bound) (bound : Bound) (j : ℕ) → MovesLower bounds bound j }
     ensures upper { (bounds : List Bound) (bound : Bound) (j : ℕ) → MovesUpper bounds bound j }
+{}
+
+/// The names of the columns are distinct and stand in the order of the lines of
+/// COLUMNS that are the first to give them, and each name that such a line gives is
+/// there. So with the names of the constraint rows and the lines of ROWS up to the end
+/// of a file without a fault.
+pub fn names_law()
+    ensures columns { (lines : List TextLine) → AreInOrder column_given lines (column_names_of lines) }
+    ensures rows { (lines before : List TextLine) → outcome_of lines ≡ Ended before → AreInOrder row_given before (rows_of before).names }
 {}

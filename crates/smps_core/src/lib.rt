@@ -9,10 +9,8 @@ mod laws;
 mod reading;
 mod rows;
 mod sides;
-#[cfg(test)]
-mod tests;
 
 pub use core_lines::{CoreFault, CoreKind, first_fault_law};
-pub use laws::{boxes_law, cells_law, entries_law};
+pub use laws::{boxes_law, cells_law, entries_law, names_law};
 pub use reading::read_core;
 pub use smps_words::{Core, CoreColumn, CoreEntry, CoreRow, RowKind};

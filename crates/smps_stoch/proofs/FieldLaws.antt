@@ -12,11 +12,12 @@ use Rattle.dec_core.specs.declared.decimal.Decimal.{Decimal}
 use Rattle.dec_core.specs.declared.decimal.DecFault.{DecFault}
 use Rattle.smps_words.specs.CoreFacts.{zero_decimal}
 use Rattle.smps_words.specs.NumberFields.{number_in}
+use Rattle.smps_words.specs.Stages.{stage_in}
 use Rattle.smps_words.specs.Tables.{first_true, ◌or◌}
 use Rattle.smps_words.specs.declared.periods.Periods.{Periods}
 use Rattle.stoch_lines.proofs.Positions.{position_below}
 use Rattle.stoch_lines.specs.Faults.{is_probability, period_fault, probability_fault, number_fault}
-use Rattle.stoch_lines.specs.Places.{period_of, stage_in, stage_of}
+use Rattle.stoch_lines.specs.Places.{period_of, stage_of}
 use Rattle.stoch_lines.specs.declared.kinds.StochKind.TheVariants.{Weight, Unknown}
 use Rattle.stoch_lines.specs.declared.places.StochPlace.{StochPlace}
 use Rattle.stoch_lines.specs.declared.places.StochPlace.TheVariants.{Cost, Cell, Right}

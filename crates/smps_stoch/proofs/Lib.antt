@@ -1,8 +1,15 @@
 pub mod Answering
+pub mod AnyEntry
+pub mod ByElement
 pub mod Entries
+pub mod EntryLaws
+pub mod EntryLines
 pub mod FieldLaws
 pub mod Filling
+pub mod LastEntries
 pub mod OwnEntries
+pub mod Owning
+pub mod PlacesOnce
 pub mod SaidLaws
 pub mod Saying
 pub mod StochLaws

@@ -22,13 +22,15 @@ use Rattle.stoch_lines.specs.Sayings.{chosen_by, element_of, new_periods, with_s
 use Rattle.stoch_lines.specs.StochOutcome.{read_meaning, said_meaning, said_whole, stepped, stepped_from}
 use Rattle.stoch_lines.specs.declared.kinds.StochKind.{StochKind}
 use Rattle.stoch_lines.specs.declared.kinds.StochKind.TheVariants.{NoEnd}
+use Rattle.stoch_lines.specs.declared.entries.Owned.{Owned}
 use Rattle.stoch_lines.specs.declared.places.Source.{Source}
 use Rattle.stoch_lines.specs.declared.state.Chosen.{Chosen}
 use Rattle.stoch_lines.specs.declared.state.Saying.{Saying}
 use Rattle.stoch_lines.specs.declared.state.ScenarioHead.{ScenarioHead}
-use Rattle.smps_stoch.specs.SaidFacts.{AreElements, AreHeads, IsHead, IsProbable, IsUsed, SaidFacts}
+use Rattle.smps_stoch.specs.SaidFacts.{AreElements, AreHeads, GoesOnWell, IsHead, IsProbable, IsUsed, SaidFacts}
 use Rattle.smps_stoch.specs.StochData.{no_choice, no_scenario}
-use Rattle.smps_stoch.specs.StochFacts.{IsEarlier, IsLaterPeriod}
+use Rattle.smps_stoch.specs.StochFacts.{IsEarlier, IsEntry, IsLaterPeriod}
+use Rattle.smps_stoch.proofs.EntryLines.{entries_after, goes_on_after}
 use Rattle.smps_stoch.proofs.Saying.{begins, said, BeginsWell, SaysWell}
 
 -- a source that is new has the next number
@@ -39,11 +41,11 @@ new_number p sources (Some k) is none =
     absurd (cc e)
 
 -- an element that is used stays so, and a realisation uses its own
-still_used : (realisations : List Chosen) (chosen : Chosen) (k : ℕ) → IsUsed realisations k → IsUsed (realisations ++ chosen ∷ []) k
+pub still_used : (realisations : List Chosen) (chosen : Chosen) (k : ℕ) → IsUsed realisations k → IsUsed (realisations ++ chosen ∷ []) k
 still_used realisations chosen k used =
     (used.0, rw length-append (omega (arith, used.1)), ap (λ (c : Chosen). c.element) (get_or_append_left realisations (chosen ∷ []) no_choice used.0 used.1) ∙ used.2)
 
-now_used : (realisations : List Chosen) (chosen : Chosen) → IsUsed (realisations ++ chosen ∷ []) chosen.element
+pub now_used : (realisations : List Chosen) (chosen : Chosen) → IsUsed (realisations ++ chosen ∷ []) chosen.element
 now_used realisations chosen =
     (length realisations, rw length-append (omega arith), ap (λ (c : Chosen). c.element) (get_or_at realisations chosen [] no_choice (length realisations) refl))
 
@@ -111,7 +113,7 @@ module _ (periods : Periods) (b : Before) where
       none
 
 module _ (core : Core) (periods : Periods) where
-  nothing_well : SaidFacts periods nothing_said
+  pub nothing_well : SaidFacts core periods nothing_said
   nothing_well = record {
     elements = record {
       probable = All-nil (λ (c : Chosen). IsProbable c.probability);
@@ -125,48 +127,62 @@ module _ (core : Core) (periods : Periods) where
       named = refl;
       few = omega arith;
     };
+    entries = record {
+      each = All-nil (λ (o : Owned). IsEntry core o.entry);
+      apart = λ i j d less lt. absurd (omega (arith, lt));
+      there = All-nil (λ (o : Owned). o.choice < 0);
+      elements = All-nil (λ (o : Owned). o.element ≡ 0);
+    };
   }
 
-  after : (b : Before) (line : TextLine) → SaidFacts periods b → line_fault core periods b line ≡ None → SaidFacts periods (next core periods b line)
-  after b line facts none = record {
+  pub nothing_goes : GoesOnWell nothing_said
+  nothing_goes = record {
+    nothing = λ _. (refl, refl);
+    section = (refl, refl);
+    begun = λ e. absurd (cc e);
+  }
+
+  pub after : (b : Before) (line : TextLine) → SaidFacts core periods b → GoesOnWell b → line_fault core periods b line ≡ None → SaidFacts core periods (next core periods b line)
+  after b line facts goes none = record {
     elements = elements_after periods b facts.elements core line none;
     heads = heads_after periods b facts.heads core line none;
+    entries = entries_after core periods b line facts.entries goes none;
   }
 
   -- what lines come to has the facts, where they end without a fault
   abbrev EndsWell : Outcome TextLine StochKind Before → Type 0
-  EndsWell (Ended b) = SaidFacts periods b
+  EndsWell (Ended b) = SaidFacts core periods b
   EndsWell (Faulty line kind) = Unit {0}
   EndsWell Endless = Unit {0}
 
-  judged_well : (fault : Option StochKind) (ends : Bool) (line : TextLine) (b : Before) (later : Outcome TextLine StochKind Before) → (fault ≡ None → SaidFacts periods b) → (fault ≡ None → EndsWell later) → EndsWell (judged fault ends line b later)
+  judged_well : (fault : Option StochKind) (ends : Bool) (line : TextLine) (b : Before) (later : Outcome TextLine StochKind Before) → (fault ≡ None → SaidFacts core periods b) → (ends ≡ false → fault ≡ None → EndsWell later) → EndsWell (judged fault ends line b later)
   judged_well (Some kind) ends line b later well on = tt
   judged_well None true line b later well on = well refl
-  judged_well None false line b later well on = on refl
+  judged_well None false line b later well on = on refl refl
 
-  steps_well : (lines : List TextLine) (b : Before) → SaidFacts periods b → EndsWell (stepped_from core periods b lines)
-  steps_well [] b facts = tt
-  steps_well (line ∷ lines) b facts =
+  steps_well : (lines : List TextLine) (b : Before) → SaidFacts core periods b → GoesOnWell b → EndsWell (stepped_from core periods b lines)
+  steps_well [] b facts goes = tt
+  steps_well (line ∷ lines) b facts goes =
       judged_well (line_fault core periods b line) (is_end line) line (next core periods b line) (stepped_from core periods (next core periods b line) lines)
-      (after b line facts)
-      (λ none. steps_well lines (next core periods b line) (after b line facts none))
+      (after b line facts goes)
+      (λ going none. steps_well lines (next core periods b line) (after b line facts goes none) (goes_on_after core periods b line goes going none))
 
-  answer_well : (last : ℕ) (come_to : Outcome TextLine StochKind Before) (b : Before) → EndsWell come_to → answer_of said_whole last NoEnd come_to ≡ Ok b → SaidFacts periods b
+  answer_well : (last : ℕ) (come_to : Outcome TextLine StochKind Before) (b : Before) → EndsWell come_to → answer_of said_whole last NoEnd come_to ≡ Ok b → SaidFacts core periods b
   answer_well last (Faulty line kind) b well is = absurd (cc is)
   answer_well last Endless b well is = absurd (cc is)
   answer_well last (Ended whole) b well is =
       let same : whole ≡ b = cc is in
-      subst (SaidFacts periods) same well
+      subst (SaidFacts core periods) same well
 
-  read_well : (bytes : List ℕ) (found : Result (List Line) LineFault) (b : Before) → read_meaning core periods bytes found ≡ Ok b → SaidFacts periods b
+  read_well : (bytes : List ℕ) (found : Result (List Line) LineFault) (b : Before) → read_meaning core periods bytes found ≡ Ok b → SaidFacts core periods b
   read_well bytes (Ok found) b is =
       let lines = text_lines bytes found in
-      answer_well (last_number lines) (stepped core periods lines) b (steps_well lines nothing_said nothing_well)
+      answer_well (last_number lines) (stepped core periods lines) b (steps_well lines nothing_said nothing_well nothing_goes)
       (ap (answer_of said_whole (last_number lines) NoEnd) (stepped_is core periods lines) ∙ is)
   read_well bytes (Err (line_faults.NotAscii line)) b is = absurd (cc is)
   read_well bytes (Err (line_faults.TooLong line)) b is = absurd (cc is)
   read_well bytes (Err line_faults.Memory) b is = absurd (cc is)
 
   -- all that a stoch file says has the facts
-  pub said_well : (bytes : List ℕ) (b : Before) → said_meaning core periods bytes ≡ Ok b → SaidFacts periods b
+  pub said_well : (bytes : List ℕ) (b : Before) → said_meaning core periods bytes ≡ Ok b → SaidFacts core periods b
   said_well bytes b is = read_well bytes (lines_of bytes) b is

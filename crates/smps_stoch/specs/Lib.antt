@@ -1,5 +1,11 @@
 pub mod ElementSteps
+pub mod LawWords
 pub mod SaidFacts
 pub mod StochData
 pub mod StochFacts
 pub mod StochMeaning
+pub use Rattle.dec_core.specs.Scale
+pub use Rattle.stoch_lines.specs.Before
+pub use Rattle.stoch_lines.specs.Faults
+pub use Rattle.stoch_lines.specs.Places
+pub use Rattle.stoch_lines.specs.StochOutcome

@@ -1,5 +1,5 @@
 -- What the lines of a stoch file give: elements with their realisations, or scenarios.
-use Rattle.std.specs.Prelude.{ℕ, ◌==◌, if◌then◌else◌, List, length, map, filter, slice_index, slice_index_or, None}
+use Rattle.std.specs.Prelude.{ℕ, ◌==◌, if◌then◌else◌, List, [], length, map, filter, slice_index, slice_index_or, None, pos}
 use Rattle.std.specs.List.{range_with_len}
 use Rattle.dec_core.specs.Scale.{common_places, scaled_to}
 use Rattle.smps_words.specs.CoreFacts.{zero_decimal}
@@ -25,6 +25,10 @@ no_choice = record { element = 0; probability = zero_decimal }
 
 abbrev pub no_scenario : ScenarioHead
 no_scenario = record { parent = None; probability = zero_decimal; period = 0 }
+
+-- what stands past the end of an element's realisations
+abbrev pub no_realisation : Realisation
+no_realisation = record { weight = pos 0; entries = [] }
 
 -- realisation k with its entries
 abbrev pub draft_at : List Chosen → List Owned → ℕ → Draft

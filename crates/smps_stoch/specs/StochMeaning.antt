@@ -19,8 +19,8 @@ data_of (Err fault) = Err fault
 abbrev pub stoch_meaning : Core → Periods → List ℕ → Result Stoch (ℕ × StochKind)
 stoch_meaning core periods bytes = data_of (said_meaning core periods bytes)
 
--- the answer is the meaning; want of memory may always be answered
-abbrev pub Gives : Result Stoch StochFault → Result Stoch (ℕ × StochKind) → Type 0
-Gives (Ok stoch) meaning = meaning ≡ Ok stoch
-Gives (Err (At line kind)) meaning = meaning ≡ Err (line, kind)
-Gives (Err Memory) meaning = Unit {0}
+-- the answer is the meaning, or memory is refused where it is asked for
+abbrev pub Gives : Type 0 → Result Stoch StochFault → Result Stoch (ℕ × StochKind) → Type 0
+Gives asked (Ok stoch) meaning = meaning ≡ Ok stoch
+Gives asked (Err (At line kind)) meaning = meaning ≡ Err (line, kind)
+Gives asked (Err Memory) meaning = asked

@@ -3,4 +3,6 @@
 #![tactic(auto)]
 
 #[cfg(test)]
+mod problems;
+#[cfg(test)]
 mod stoch_files;

@@ -1,10 +1,13 @@
 -- The reader's answer, by the arms of its code.
-use Rattle.std.proofs.Common.{◌≡◌, ℕ, ◌+◌, ◌<◌, List, ◌∷◌, length, drop, get_or, Option, Result, Ok, Err, IfOk, IfErr, ap, sym, subst, ◌∙◌}
+use Rattle.std.proofs.Math.ListN.{length-map}
+use Rattle.smps_words.proofs.Asking.{lines_ask}
+use Rattle.smps_words.specs.Memory.{MayRefuse}
+use Rattle.std.proofs.Common.{◌≡◌, ℕ, ◌+◌, ◌<◌, List, ◌∷◌, length, drop, get_or, Option, Result, Ok, Err, IfOk, IfErr, ap, sym, subst, ◌∙◌, arith, []}
 use Rattle.std.proofs.lemmas.List.{drop_more}
 use Rattle.line_core.specs.Lines.{lines_of}
 use Rattle.line_core.specs.declared.line_list.Line.{Line}
 use Rattle.smps_words.specs.Outcomes.{Outcome, answer_of, judged}
-use Rattle.smps_words.specs.Outcomes.Outcome.{Faulty}
+use Rattle.smps_words.specs.Outcomes.Outcome.{Faulty, Ended}
 use Rattle.smps_words.specs.TextLines.{TextLine, last_number, text_line, text_lines}
 use Rattle.smps_words.specs.declared.periods.Periods.{Periods}
 use Rattle.smps_time.specs.TimeFile.{CoreNames, Before, is_end, line_fault, with_line}
@@ -21,9 +24,13 @@ use Rattle.smps_time.proofs.Adding.{added_is}
 abbrev pub answer_for : List TextLine → Outcome TextLine TimeKind Before → Result PeriodsData (ℕ × TimeKind)
 answer_for lines outcome = answer_of periods_in (last_number lines) NoEnd outcome
 
+-- a line that is there, as text
+some_text : (bytes : List ℕ) (lines : List Line) → 0 < length lines → 0 < length (text_lines bytes lines)
+some_text bytes lines some = subst (λ n. 0 < n) (sym (length-map lines (text_line bytes))) some
+
 -- a fault of a line is that of the file, where the lines before it have none
-pub refused : (core : CoreNames) (bytes : List ℕ) (lines : List Line) (i : ℕ) (line : Line) (before : Before) (fault : TimeFault) → i < length lines → line ≡ get_or lines i line → added_from core before (text_lines bytes (drop i lines)) ≡ added core (text_lines bytes lines) → Refuses (text_line bytes line) (line_fault core before (text_line bytes line)) fault → Fails fault (answer_for (text_lines bytes lines) (added core (text_lines bytes lines)))
-refused core bytes lines i line before Memory lt at rest refuses = tt
+pub refused : (core : CoreNames) (bytes : List ℕ) (lines : List Line) (i : ℕ) (line : Line) (before : Before) (fault : TimeFault) → i < length lines → line ≡ get_or lines i line → added_from core before (text_lines bytes (drop i lines)) ≡ added core (text_lines bytes lines) → Refuses (text_line bytes line) (line_fault core before (text_line bytes line)) fault → Fails (0 < length (text_lines bytes lines)) fault (answer_for (text_lines bytes lines) (added core (text_lines bytes lines)))
+refused core bytes lines i line before Memory lt at rest refuses = some_text bytes lines (omega (arith, lt))
 refused core bytes lines i line before (At number kind) lt at rest refuses =
     let text = text_line bytes line in
     let later = drop (i + 1) lines in
@@ -36,15 +43,24 @@ refused core bytes lines i line before (At number kind) lt at rest refuses =
 meaning_is : (core : CoreNames) (bytes : List ℕ) (lines : List Line) → lines_of bytes ≡ Ok lines → time_meaning core bytes ≡ answer_for (text_lines bytes lines) (added core (text_lines bytes lines))
 meaning_is core bytes lines is = ap (read_meaning core bytes) is ∙ ap (answer_for (text_lines bytes lines)) (sym (added_is core (text_lines bytes lines)))
 
-fails_as : (fault : TimeFault) (answer meaning : Result PeriodsData (ℕ × TimeKind)) → meaning ≡ answer → Fails fault answer → Fails fault meaning
-fails_as Memory answer meaning same fails = tt
-fails_as (At line kind) answer meaning same fails = same ∙ fails
+fails_as : (some may : Type 0) (fault : TimeFault) (answer meaning : Result PeriodsData (ℕ × TimeKind)) → (some → may) → meaning ≡ answer → Fails some fault answer → Fails may fault meaning
+fails_as some may Memory answer meaning asks same fails = asks fails
+fails_as some may (At line kind) answer meaning asks same fails = same ∙ fails
+
+-- lines as text are as many as the lines
+asked_by : (bytes : List ℕ) (lines : List Line) → lines_of bytes ≡ Ok lines → 0 < length (text_lines bytes lines) → MayRefuse bytes
+asked_by bytes lines is some = lines_ask bytes lines is (subst (λ n. 0 < n) (length-map lines (text_line bytes)) some)
 
 -- a fault of the lines is that of the file
-pub lines_fail : (core : CoreNames) (bytes : List ℕ) (lines : List Line) (fault : TimeFault) → lines_of bytes ≡ Ok lines → Reads (text_lines bytes lines) (added core (text_lines bytes lines)) (Err fault) → Fails fault (time_meaning core bytes)
-lines_fail core bytes lines fault is fails = fails_as fault _ _ (meaning_is core bytes lines is) fails
+pub lines_fail : (core : CoreNames) (bytes : List ℕ) (lines : List Line) (fault : TimeFault) → lines_of bytes ≡ Ok lines → Reads (text_lines bytes lines) (added core (text_lines bytes lines)) (Err fault) → Fails (MayRefuse bytes) fault (time_meaning core bytes)
+lines_fail core bytes lines fault is fails = fails_as (0 < length (text_lines bytes lines)) (MayRefuse bytes) fault _ _ (asked_by bytes lines is) (meaning_is core bytes lines is) fails
+
+-- a file that has an end has a line
+ended_some : (core : CoreNames) (bytes : List ℕ) (lines : List Line) (before : Before) → added core (text_lines bytes lines) ≡ Ended before → 0 < length lines
+ended_some core bytes [] before ended = absurd cc
+ended_some core bytes (line ∷ lines) before ended = omega arith
 
 -- what the lines up to the end say is what the file means
-pub lines_end : (core : CoreNames) (bytes : List ℕ) (lines : List Line) (reading : Reading) (result : Result Periods TimeFault) → lines_of bytes ≡ Ok lines → Reads (text_lines bytes lines) (added core (text_lines bytes lines)) (Ok reading) → IfOk result (λ periods. data_of periods ≡ periods_in (before_in reading)) → IfErr result (λ fault. fault ≡ Memory) → Gives result (time_meaning core bytes)
+pub lines_end : (core : CoreNames) (bytes : List ℕ) (lines : List Line) (reading : Reading) (result : Result Periods TimeFault) → lines_of bytes ≡ Ok lines → Reads (text_lines bytes lines) (added core (text_lines bytes lines)) (Ok reading) → IfOk result (λ periods. data_of periods ≡ periods_in (before_in reading)) → IfErr result (λ fault. fault ≡ Memory) → Gives (MayRefuse bytes) result (time_meaning core bytes)
 lines_end core bytes lines reading (Ok periods) is ended ok err = meaning_is core bytes lines is ∙ ap (answer_for (text_lines bytes lines)) ended ∙ ap (λ (d : PeriodsData). Ok d) (sym ok)
-lines_end core bytes lines reading (Err fault) is ended ok err = subst (λ (f : TimeFault). Fails f (time_meaning core bytes)) (sym err) tt
+lines_end core bytes lines reading (Err fault) is ended ok err = subst (λ (f : TimeFault). Fails (MayRefuse bytes) f (time_meaning core bytes)) (sym err) (lines_ask bytes lines is (ended_some core bytes lines (before_in reading) ended))

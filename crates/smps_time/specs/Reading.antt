@@ -79,10 +79,10 @@ added_from core before lines = folded (line_fault core) is_end (with_line core) 
 abbrev pub added : CoreNames → List TextLine → Outcome TextLine TimeKind Before
 added core lines = added_from core (before_of core []) lines
 
--- what the reader answers: all up to the end, or the first fault
+-- what the reader answers: all up to the end, or the first fault; lines ask for memory where there are some
 abbrev pub Reads : List TextLine → Outcome TextLine TimeKind Before → Result Reading TimeFault → Type 0
 Reads lines outcome (Ok reading) = outcome ≡ Ended (before_in reading)
-Reads lines outcome (Err fault) = Fails fault (answer_of periods_in (last_number lines) NoEnd outcome)
+Reads lines outcome (Err fault) = Fails (0 < length lines) fault (answer_of periods_in (last_number lines) NoEnd outcome)
 
 -- the same for the lines of the file with these bytes
 abbrev pub ReadsLines : Core → List ℕ → List Line → Result Reading TimeFault → Type 0

@@ -54,12 +54,12 @@ read_meaning core bytes (Err lines.Memory) = Err (0, NoEnd)
 abbrev pub time_meaning : CoreNames → List ℕ → Result PeriodsData (ℕ × TimeKind)
 time_meaning core bytes = read_meaning core bytes (lines_of bytes)
 
--- a fault is that of the file; want of memory may always be answered
-abbrev pub Fails : TimeFault → Result PeriodsData (ℕ × TimeKind) → Type 0
-Fails (At line kind) meaning = meaning ≡ Err (line, kind)
-Fails Memory meaning = Unit {0}
+-- a fault is that of the file, or memory is refused where it is asked for
+abbrev pub Fails : Type 0 → TimeFault → Result PeriodsData (ℕ × TimeKind) → Type 0
+Fails asked (At line kind) meaning = meaning ≡ Err (line, kind)
+Fails asked Memory meaning = asked
 
 -- the answer is the meaning
-abbrev pub Gives : Result Periods TimeFault → Result PeriodsData (ℕ × TimeKind) → Type 0
-Gives (Ok periods) meaning = meaning ≡ Ok (data_of periods)
-Gives (Err fault) meaning = Fails fault meaning
+abbrev pub Gives : Type 0 → Result Periods TimeFault → Result PeriodsData (ℕ × TimeKind) → Type 0
+Gives asked (Ok periods) meaning = meaning ≡ Ok (data_of periods)
+Gives asked (Err fault) meaning = Fails asked fault meaning

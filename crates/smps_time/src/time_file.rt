@@ -1,4 +1,5 @@
 ghost use Rattle.std.specs.Prelude.{◌≡◌, ◌≤◌, [], length, Err, List, IfErr, IfOk};
+ghost use Rattle.smps_words.specs.Memory.{MayRefuse};
 ghost use Rattle.smps_words.specs.PeriodFacts.{min_periods};
 ghost use Rattle.smps_words.specs.Places.{Says};
 ghost use Rattle.smps_words.specs.TextLines.{TextLine, last_number, text_lines};
@@ -89,9 +90,10 @@ fn periods_in(alloc: Global, reading: Reading) -> Result<Periods, TimeFault>
 ///
 /// `At` is the first fault of the file. Faults of a line's bytes or length
 /// come first wherever they stand, and then each line is judged by the lines
-/// before it.
+/// before it. `Memory` comes only where a line is read before the first fault
+/// of the lines.
 pub fn read_time(alloc: Global, bytes: &[u8], core: &Core) -> Result<Periods, TimeFault>
-    ensures { Gives result (time_meaning (names_of core.now) bytes.now) }
+    ensures { Gives (MayRefuse bytes.now) result (time_meaning (names_of core.now) bytes.now) }
 {
     let found = match lines(alloc, bytes) {
         Ok(found) => found,

@@ -1,4 +1,7 @@
+pub mod Asking
 pub mod Fields
 pub mod FoldLaw
-pub mod ToldLaws
+pub mod PeriodStages
 pub mod PlaceLaw
+pub mod StageLaws
+pub mod ToldLaws

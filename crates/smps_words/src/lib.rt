@@ -6,6 +6,7 @@
 mod core_data;
 mod core_file;
 mod file_line;
+mod laws;
 mod periods;
 #[cfg(test)]
 mod tests;
@@ -13,4 +14,5 @@ mod tests;
 pub use core_data::{CoreColumn, CoreEntry, CoreRow, RowKind};
 pub use core_file::Core;
 pub use file_line::FileLine;
+pub use laws::{stage_in_is_last, stage_is_one};
 pub use periods::Periods;

@@ -7,12 +7,12 @@ use Rattle.sp_model.specs.Changes.{Data, with_change}
 use Rattle.sp_model.specs.declared.program.Change.{Change}
 use Rattle.sp_model.specs.declared.program.Change.TheVariants.{Cost, Cell, Limits}
 
-change_costs : (d : Data) (c : Change) → length (with_change d c).costs ≡ length d.costs
+pub change_costs : (d : Data) (c : Change) → length (with_change d c).costs ≡ length d.costs
 change_costs d (Cost column value) = length-set d.costs column value
 change_costs d (Cell row column value) = refl
 change_costs d (Limits row lower upper) = refl
 
-change_limits : (d : Data) (c : Change) → length (with_change d c).limits ≡ length d.limits
+pub change_limits : (d : Data) (c : Change) → length (with_change d c).limits ≡ length d.limits
 change_limits d (Cost column value) = refl
 change_limits d (Cell row column value) = refl
 change_limits d (Limits row lower upper) = length-set d.limits row (record { lower = lower; upper = upper })

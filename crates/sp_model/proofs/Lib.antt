@@ -5,3 +5,4 @@ pub mod Sizes
 pub mod Bounds
 pub mod DataFacts
 pub mod Lengths
+pub mod PlaceValues

@@ -4,3 +4,4 @@ pub mod Facts
 pub mod Plans
 pub mod Problems
 pub mod Reaching
+pub mod Values

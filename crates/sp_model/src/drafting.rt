@@ -51,8 +51,8 @@ fn copied(alloc: Global, entries: &List<Entry>) -> Result<Vec<Entry>, AllocError
     Ok(copy)
 }
 
-// The core's own data.
-fn core(alloc: Global, program: &Program) -> Result<Draft, AllocError>
+/// The core's own data.
+pub fn core_draft(alloc: Global, program: &Program) -> Result<Draft, AllocError>
     ensures { IfOk result (λ draft. data_in draft ≡ core_data program.now) }
 {
     let costs = costs(alloc, &program.columns)?;
@@ -101,7 +101,7 @@ pub fn drafted(alloc: Global, program: &Program, scenario: &Scenario) -> Result<
     requires { All (λ c. is_change (length program.now.rows) (length program.now.columns) c ≡ true) scenario.now.changes }
     ensures { IfOk result (λ draft. data_in draft ≡ data_of program.now scenario.now) }
 {
-    let mut draft = core(alloc, program)?;
+    let mut draft = core_draft(alloc, program)?;
     for change in scenario.changes.as_slice() {
         draft.apply(change)?;
     }

@@ -10,7 +10,9 @@ mod placing;
 mod plan;
 mod program;
 mod run;
+mod value_laws;
 
+pub use drafting::{Draft, core_draft, drafted};
 pub use laws::{wait_and_see_bounds, weak_duality};
 pub use limits::{
     MAX_BOX_END, MAX_BUDGET, MAX_CANDIDATES, MAX_CELLS, MAX_COLUMNS, MAX_GAP, MAX_ITERATIONS,
@@ -20,3 +22,4 @@ pub use limits::{
 pub use plan::{Multipliers, Plan};
 pub use program::{Change, Column, Options, Program, Row, Scenario};
 pub use run::Run;
+pub use value_laws::scenario_values;

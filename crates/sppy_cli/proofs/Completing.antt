@@ -1,140 +1,132 @@
--- What a command's status says of files of the small form, and of a first wrong file.
-use Rattle.std.proofs.Common.{arith, ◌≡◌, inl, inr, ◌∙◌, ℕ, Bool, true, false, nat_le, if◌then◌else◌, List, Option, Some, None, length, refl, sym, ap, subst}
+-- What a command's status says of files that make a run, and of a cause why they make none.
+use Rattle.std.proofs.Common.{◌≡◌, inl, inr, ◌∙◌, ℕ, List, Option, Some, None, refl, sym, ap, subst}
 use Rattle.std.specs.FinMap.{get}
-use Rattle.std.proofs.lemmas.Bool.{leb-true}
 use Rattle.io_edge.specs.Faults.{CountsTo}
 use Rattle.io_edge.specs.Shelves.{FileTable}
-use Rattle.sppy_cli.specs.Complete.{AreSmall, Completes, CompletesIn, Refuses, RefusesIn}
-use Rattle.sppy_cli.specs.CoreFile.{core_of}
+use Rattle.join_words.specs.Joining.{IsRefused}
+use Rattle.run_words.specs.Words.{Request}
+use Rattle.run_words.specs.declared.command.Action.{Action}
+use Rattle.smps_core.specs.CoreData.{IsCoreOf}
+use Rattle.sppy_cli.specs.Causes.{CoreFails, IsCause, IsFaulty, IsInstanceOf, JoinFails, StochFails, TimeFails, joined_of, status_of_join}
+use Rattle.sppy_cli.specs.Complete.{Completes, CompletesIn, EndsBy, EndsByRun, IsCalm, Refuses, RefusesIn}
 use Rattle.sppy_cli.specs.Desk.{Answers, AnswersRequest}
-use Rattle.sppy_cli.specs.Files.{HasFault, IsRunIn, IsWrong, IsWrongAt, branches_at, core_at, max_file_bytes, periods_at, said_by}
+use Rattle.sppy_cli.specs.Files.{ArePeriodsIn, stoch_file, time_file}
 use Rattle.sppy_cli.specs.Statuses.{read_fault_of, write_fault_of}
-use Rattle.sppy_cli.specs.StochFile.{branches_of}
-use Rattle.sppy_cli.specs.TimeFile.{periods_of}
-use Rattle.sppy_cli.specs.Words.{Request}
-use Rattle.sppy_cli.specs.declared.run.Run.{Run}
-use Rattle.sppy_cli.specs.declared.status.InputFault.{InputFault}
-use Rattle.sppy_cli.specs.declared.status.InputFile.{InputFile}
+use Rattle.sppy_cli.specs.Texts.{IsRest, IsWaitRest, Writes}
+use Rattle.sppy_cli.specs.declared.instance.Instance.{Instance}
 use Rattle.sppy_cli.specs.declared.status.InputFile.TheVariants as file
-use Rattle.sppy_cli.specs.declared.status.InputKind.{InputKind}
-use Rattle.sppy_cli.specs.declared.status.InputKind.TheVariants as kind
 use Rattle.sppy_cli.specs.declared.status.Status.{Status}
 use Rattle.sppy_cli.specs.declared.status.Status.TheVariants as status
-use Rattle.sppy_cli.proofs.HavingPoints.{summed_have_points}
+use Rattle.sppy_cli.proofs.OneReading.{clash, no_stoch_cause, no_time_cause, one_core, one_triple, one_periods, same_status, time_clash}
+use Rattle.sppy_cli.proofs.OneJoin.{one_refusal, run_or_refusal}
+use Rattle.wait_and_see.specs.WaitAnswers.{AllHavePoints}
+use Rattle.wait_and_see.proofs.Points.{bounded_have_points}
 
-some_same : {X : Type 0} (given : Option X) (x y : X) → given ≡ Some x → given ≡ Some y → x ≡ y
-some_same given x y e f = cc
+-- where the files make a run, there is no cause
+no_cause : (table : FileTable) (request : Request) (i : Instance) (s : Status) → IsInstanceOf (Some table) request i → IsCause table request s → ⊥
+no_cause table request i s (read, joined) (inl (fault, said, e)) = clash IsCoreOf _ i.triple.core fault read.core_is said
+no_cause table request i s (read, joined) (inr (inl fails)) = no_time_cause table request i.triple s read fails
+no_cause table request i s (read, joined) (inr (inr (inl fails))) = no_stoch_cause table request i.triple s read fails
+no_cause table request i s (read, joined) (inr (inr (inr (triple, fault, also, refused, other, e)))) =
+    let same = one_triple table request triple i.triple also read in
+    run_or_refusal (joined_of request i.triple) request.options i.run fault joined (subst (λ d. IsRefused (joined_of request d) request.options fault) same refused) other
 
--- the files of a run are of the small form
-files_of_run : (table : FileTable) (request : Request) (run : Run) → IsRunIn table request run → AreSmall table request
-files_of_run table request run is = record { core = is.core; periods = is.periods; branches = is.branches; core_is = is.core_is; periods_are = is.periods_are; branches_are = is.branches_are }
+-- only one cause is the first
+core_first : (table : FileTable) (request : Request) (s t : Status) → CoreFails table request s → IsCause table request t → s ≡ t
+core_first table request s t fails (inl also) = same_status file.Core _ s t fails also
+core_first table request s t (fault, said, e) (inr (inl (core, is, rest))) = absurd (clash IsCoreOf _ core fault is said)
+core_first table request s t (fault, said, e) (inr (inr (inl (core, periods, is, are, rest)))) = absurd (clash IsCoreOf _ core fault is said)
+core_first table request s t (fault, said, e) (inr (inr (inr (triple, f, read, refused, told, out)))) = absurd (clash IsCoreOf _ triple.core fault read.core_is said)
 
--- a wrong file says nothing
-wrong_says_nothing : {X : Type 0} (read : List ℕ → Option X) (file : Option (List ℕ)) (kind : InputKind) (x : X) → IsWrong read file kind → said_by read file ≡ Some x → ⊥
-wrong_says_nothing read None kind x wrong said = wrong
-wrong_says_nothing read (Some bytes) kind.TooLong x wrong said = by_test (nat_le (length bytes) max_file_bytes) refl said
+time_first : (table : FileTable) (request : Request) (s t : Status) → TimeFails table request s → IsCause table request t → s ≡ t
+time_first table request s t fails (inl also) = sym (core_first table request t s also (inr (inl fails)))
+time_first table request s t (core, is, faulty) (inr (inl (other, also, faulty2))) =
+    let same = one_core (get table request.core) other core also is in
+    same_status file.Time _ s t faulty (subst (λ c. IsFaulty file.Time (time_file c (get table request.time)) t) same faulty2)
+time_first table request s t (core, is, faulty) (inr (inr (inl (other, periods, also, periods_are, rest)))) =
+    absurd (time_clash table request core other periods s is also periods_are faulty)
+time_first table request s t (core, is, faulty) (inr (inr (inr (triple, f, read, refused, told, out)))) =
+    absurd (time_clash table request core triple.core triple.periods s is read.core_is read.periods_are faulty)
+
+stoch_first : (table : FileTable) (request : Request) (s t : Status) → StochFails table request s → IsCause table request t → s ≡ t
+stoch_first table request s t fails (inl also) = sym (core_first table request t s also (inr (inr (inl fails))))
+stoch_first table request s t fails (inr (inl also)) = sym (time_first table request t s also (inr (inr (inl fails))))
+stoch_first table request s t (core, periods, is, are, faulty) (inr (inr (inl (other, others, also, too, faulty2)))) =
+    let same = one_core (get table request.core) other core also is in
+    let both = one_periods (get table request.time) core others periods (subst (λ c. ArePeriodsIn c (get table request.time) others) same too) are in
+    same_status file.Stoch _ s t faulty
+    (subst (λ p. IsFaulty file.Stoch (stoch_file core p (get table request.stoch)) t) both
+    (subst (λ c. IsFaulty file.Stoch (stoch_file c others (get table request.stoch)) t) same faulty2))
+stoch_first table request s t fails (inr (inr (inr (triple, f, read, refused, told, out)))) = absurd (no_stoch_cause table request triple s read fails)
+
+join_first : (table : FileTable) (request : Request) (s t : Status) → JoinFails table request s → IsCause table request t → s ≡ t
+join_first table request s t fails (inl also) = sym (core_first table request t s also (inr (inr (inr fails))))
+join_first table request s t fails (inr (inl also)) = sym (time_first table request t s also (inr (inr (inr fails))))
+join_first table request s t fails (inr (inr (inl also))) = sym (stoch_first table request t s also (inr (inr (inr fails))))
+join_first table request s t (triple, f, read, refused, told, e) (inr (inr (inr (other, g, also, refused2, told2, e2)))) =
+    let same = one_triple table request other triple also read in
+    let one = one_refusal (joined_of request triple) request.options f g refused (subst (λ d. IsRefused (joined_of request d) request.options g) same refused2) told told2 in
+    e ∙ ap status_of_join one ∙ sym e2
+
+one_cause : (table : FileTable) (request : Request) (s t : Status) → IsCause table request s → IsCause table request t → s ≡ t
+one_cause table request s t (inl fails) also = core_first table request s t fails also
+one_cause table request s t (inr (inl fails)) also = time_first table request s t fails also
+one_cause table request s t (inr (inr (inl fails))) also = stoch_first table request s t fails also
+one_cause table request s t (inr (inr (inr fails))) also = join_first table request s t fails also
+
+-- how a command ends by what it wrote
+ends : (action : Action) (i : Instance) (old new : Option (List ℕ)) (s : Status) → Writes action i old new s → write_fault_of s ≡ None → EndsBy action i.run s
+ends action i old new status.Done (text, (rest, is, e), f) none = λ a. points (subst (λ action. IsRest action i rest) a is)
   where
-    by_test : (t : Bool) → nat_le (length bytes) max_file_bytes ≡ t → (if t then read bytes else None) ≡ Some x → ⊥
-    by_test true e said = let short = leb-true (length bytes) max_file_bytes e in omega (arith, short, wrong)
-    by_test false e said = cc
-wrong_says_nothing read (Some bytes) kind.Unbuilt x (fits, none) said = by_test (nat_le (length bytes) max_file_bytes) said
-  where
-    by_test : (t : Bool) → (if t then read bytes else None) ≡ Some x → ⊥
-    by_test true said = cc
-    by_test false said = cc
+    points : IsWaitRest i rest → AllHavePoints i.run
+    points (bound, lines, b, h, g) = bounded_have_points i.run bound b
+ends action i old new (status.Infeasible scenario) (a, first, e) none = (a, first)
+ends action i old new (status.Spent scenario opened) (a, spent, e) none = (a, spent)
+ends action i old new (status.WriteFault faults) front none = absurd (let x = none in cc)
+ends action i old new status.Memory front none = tt
+ends action i old new status.Words never none = never
+ends action i old new (status.Input fault) never none = never
+ends action i old new (status.Wide reach) never none = never
+ends action i old new (status.ReadFault faults) never none = never
 
-one_kind : {X : Type 0} (read : List ℕ → Option X) (file : Option (List ℕ)) (k l : InputKind) → IsWrong read file k → IsWrong read file l → k ≡ l
-one_kind read None k l wrong also = absurd wrong
-one_kind read (Some bytes) kind.TooLong kind.TooLong wrong also = refl
-one_kind read (Some bytes) kind.Unbuilt kind.Unbuilt wrong also = refl
-one_kind read (Some bytes) kind.TooLong kind.Unbuilt wrong (fits, none) = absurd (omega (arith, wrong, fits))
-one_kind read (Some bytes) kind.Unbuilt kind.TooLong (fits, none) also = absurd (omega (arith, fits, also))
+-- a request whose files make a run
+by_run : (table : FileTable) (request : Request) (i : Instance) (old new : Option (List ℕ)) (w v : ℕ) (s : Status) →
+    IsInstanceOf (Some table) request i → Writes request.action i old new s → CountsTo w v (write_fault_of s) → IsCalm w v → EndsByRun table request s
+by_run table request i old new w v (status.WriteFault faults) is wrote (rises, e) calm = absurd (calm rises)
+by_run table request i old new w v status.Done is wrote counts calm = (i, is, ends request.action i old new status.Done wrote refl)
+by_run table request i old new w v status.Words is wrote counts calm = (i, is, ends request.action i old new status.Words wrote refl)
+by_run table request i old new w v (status.Input fault) is wrote counts calm = (i, is, ends request.action i old new (status.Input fault) wrote refl)
+by_run table request i old new w v (status.Infeasible scenario) is wrote counts calm = (i, is, ends request.action i old new (status.Infeasible scenario) wrote refl)
+by_run table request i old new w v (status.Spent scenario opened) is wrote counts calm = (i, is, ends request.action i old new (status.Spent scenario opened) wrote refl)
+by_run table request i old new w v (status.Wide reach) is wrote counts calm = (i, is, ends request.action i old new (status.Wide reach) wrote refl)
+by_run table request i old new w v (status.ReadFault faults) is wrote counts calm = (i, is, ends request.action i old new (status.ReadFault faults) wrote refl)
+by_run table request i old new w v status.Memory is wrote counts calm = (i, is, ends request.action i old new status.Memory wrote refl)
 
--- no file of the small form is wrong
-no_wrong : (table : FileTable) (request : Request) (f : InputFile) (k : InputKind) → AreSmall table request → IsWrongAt table request f k → ⊥
-no_wrong table request file.Core k is wrong = wrong_says_nothing core_of (get table request.core) k is.core wrong is.core_is
-no_wrong table request file.Time k is (core, core_is, wrong) =
-    let c : is.core ≡ core = some_same (core_at table request) is.core core is.core_is core_is in
-    wrong_says_nothing (periods_of core) (get table request.time) k is.periods wrong (subst (λ core. periods_at table request core ≡ Some is.periods) c is.periods_are)
-no_wrong table request file.Stoch k is (core, periods, core_is, periods_are, wrong) =
-    let c : is.core ≡ core = some_same (core_at table request) is.core core is.core_is core_is in
-    let p : is.periods ≡ periods = some_same (periods_at table request core) is.periods periods (subst (λ core. periods_at table request core ≡ Some is.periods) c is.periods_are) periods_are in
-    wrong_says_nothing (branches_of core periods) (get table request.stoch) k is.branches wrong
-    (subst (λ periods. branches_at table request core periods ≡ Some is.branches) p (subst (λ core. branches_at table request core is.periods ≡ Some is.branches) c is.branches_are))
-
-no_fault : (table : FileTable) (request : Request) (fault : InputFault) → AreSmall table request → HasFault table request fault → ⊥
-no_fault table request fault is (e, wrong) = no_wrong table request fault.file fault.kind is wrong
-
--- only one file is the first wrong one, and in one way
-one_place : (table : FileTable) (request : Request) (f g : InputFile) (k l : InputKind) → IsWrongAt table request f k → IsWrongAt table request g l → (f ≡ g) × (k ≡ l)
-one_place table request file.Core file.Core k l wrong also = (refl, one_kind core_of (get table request.core) k l wrong also)
-one_place table request file.Core file.Time k l wrong (core, core_is, also) = absurd (wrong_says_nothing core_of (get table request.core) k core wrong core_is)
-one_place table request file.Core file.Stoch k l wrong (core, periods, core_is, periods_are, also) = absurd (wrong_says_nothing core_of (get table request.core) k core wrong core_is)
-one_place table request file.Time file.Core k l (core, core_is, wrong) also = absurd (wrong_says_nothing core_of (get table request.core) l core also core_is)
-one_place table request file.Stoch file.Core k l (core, periods, core_is, periods_are, wrong) also = absurd (wrong_says_nothing core_of (get table request.core) l core also core_is)
-one_place table request file.Time file.Time k l (core, core_is, wrong) (other, other_is, also) =
-    let c : core ≡ other = some_same (core_at table request) core other core_is other_is in
-    (refl, one_kind (periods_of other) (get table request.time) k l (subst (λ core. IsWrong (periods_of core) (get table request.time) k) c wrong) also)
-one_place table request file.Time file.Stoch k l (core, core_is, wrong) (other, periods, other_is, periods_are, also) =
-    let c : core ≡ other = some_same (core_at table request) core other core_is other_is in
-    absurd (wrong_says_nothing (periods_of other) (get table request.time) k periods (subst (λ core. IsWrong (periods_of core) (get table request.time) k) c wrong) periods_are)
-one_place table request file.Stoch file.Time k l (other, periods, other_is, periods_are, wrong) (core, core_is, also) =
-    let c : core ≡ other = some_same (core_at table request) core other core_is other_is in
-    absurd (wrong_says_nothing (periods_of other) (get table request.time) l periods (subst (λ core. IsWrong (periods_of core) (get table request.time) l) c also) periods_are)
-one_place table request file.Stoch file.Stoch k l (core, periods, core_is, periods_are, wrong) (other, others, other_is, others_are, also) =
-    let c : core ≡ other = some_same (core_at table request) core other core_is other_is in
-    let p : periods ≡ others = some_same (periods_at table request other) periods others (subst (λ core. periods_at table request core ≡ Some periods) c periods_are) others_are in (
-      refl,
-      one_kind (branches_of other others) (get table request.stoch) k l
-          (subst (λ periods. IsWrong (branches_of other periods) (get table request.stoch) k) p (subst (λ core. IsWrong (branches_of core periods) (get table request.stoch) k) c wrong)) also,
-    )
-
-abbrev fault_with : InputFile → ℕ → InputKind → InputFault
-fault_with file line kind = record { file = file; line = line; kind = kind }
-
-equal_faults : (f g : InputFault) → f.file ≡ g.file → f.line ≡ g.line → f.kind ≡ g.kind → f ≡ g
-equal_faults f g e l k = ap (λ x. fault_with x f.line f.kind) e ∙ (ap (λ x. fault_with g.file x f.kind) l ∙ ap (fault_with g.file g.line) k)
-
-one_fault : (table : FileTable) (request : Request) (f g : InputFault) → HasFault table request f → HasFault table request g → f ≡ g
-one_fault table request f g (l, wrong) (m, also) =
-    let both = one_place table request f.file g.file f.kind g.kind wrong also in
-    equal_faults f g both.0 (l ∙ sym m) both.1
-
--- files of the small form
 complete_by : (table : FileTable) (request : Request) (old new : Option (List ℕ)) (r u w v : ℕ) (s : Status) →
     AnswersRequest (Some table) request old new s → CountsTo r u (read_fault_of s) → CountsTo w v (write_fault_of s) → CompletesIn table request r u w v s
-complete_by table request old new r u w v status.Done (inl (run, is, (text, wait, e))) reads writes small calm_in calm_out =
-    (run, is, summed_have_points run (length run.program.scenarios) wait.bound wait.bound_is)
-complete_by table request old new r u w v (status.Infeasible scenario) (inl (run, is, (first, e))) reads writes small calm_in calm_out = (run, is, first)
-complete_by table request old new r u w v (status.WriteFault faults) (inl a) reads (rises, e) small calm_in calm_out = calm_out rises
-complete_by table request old new r u w v status.Memory (inl a) reads writes small calm_in calm_out = tt
-complete_by table request old new r u w v status.Words (inl (run, is, never)) reads writes small calm_in calm_out = never
-complete_by table request old new r u w v (status.Input fault) (inl (run, is, never)) reads writes small calm_in calm_out = never
-complete_by table request old new r u w v (status.ReadFault faults) (inl (run, is, never)) reads writes small calm_in calm_out = never
-complete_by table request old new r u w v (status.Input fault) (inr (fault_is, e)) reads writes small calm_in calm_out = no_fault table request fault small fault_is
-complete_by table request old new r u w v (status.ReadFault faults) (inr a) (rises, e) writes small calm_in calm_out = calm_in rises
-complete_by table request old new r u w v status.Memory (inr a) reads writes small calm_in calm_out = tt
-complete_by table request old new r u w v status.Done (inr (never, e)) reads writes small calm_in calm_out = absurd never
-complete_by table request old new r u w v status.Words (inr (never, e)) reads writes small calm_in calm_out = never
-complete_by table request old new r u w v (status.Infeasible scenario) (inr (never, e)) reads writes small calm_in calm_out = absurd never
-complete_by table request old new r u w v (status.WriteFault faults) (inr (never, e)) reads writes small calm_in calm_out = never
+complete_by table request old new r u w v s (inl (i, is, wrote)) reads writes other also calm_in calm_out = by_run table request i old new w v s is wrote writes calm_out
+complete_by table request old new r u w v (status.Input fault) (inr (cause, e)) reads writes i is calm_in calm_out = absurd (no_cause table request i (status.Input fault) is cause)
+complete_by table request old new r u w v (status.Wide reach) (inr (cause, e)) reads writes i is calm_in calm_out = absurd (no_cause table request i (status.Wide reach) is cause)
+complete_by table request old new r u w v (status.ReadFault faults) (inr a) (rises, e) writes i is calm_in calm_out = absurd (calm_in rises)
+complete_by table request old new r u w v status.Memory (inr a) reads writes i is calm_in calm_out = (i, is, tt)
+complete_by table request old new r u w v status.Done (inr (never, e)) reads writes i is calm_in calm_out = absurd never
+complete_by table request old new r u w v status.Words (inr (never, e)) reads writes i is calm_in calm_out = absurd never
+complete_by table request old new r u w v (status.Infeasible scenario) (inr (never, e)) reads writes i is calm_in calm_out = absurd never
+complete_by table request old new r u w v (status.Spent scenario opened) (inr (never, e)) reads writes i is calm_in calm_out = absurd never
+complete_by table request old new r u w v (status.WriteFault faults) (inr (never, e)) reads writes i is calm_in calm_out = absurd never
 
--- a first wrong file
+-- a request whose files make none
 refuses_by : (table : FileTable) (request : Request) (old new : Option (List ℕ)) (s : Status) → AnswersRequest (Some table) request old new s → RefusesIn table request s
-refuses_by table request old new status.Done (inl (run, is, a)) fault wrong = no_fault table request fault (files_of_run table request run is) wrong
-refuses_by table request old new (status.Infeasible scenario) (inl (run, is, a)) fault wrong = no_fault table request fault (files_of_run table request run is) wrong
-refuses_by table request old new (status.WriteFault faults) (inl (run, is, a)) fault wrong = no_fault table request fault (files_of_run table request run is) wrong
-refuses_by table request old new status.Memory (inl a) fault wrong = tt
-refuses_by table request old new (status.ReadFault faults) (inl a) fault wrong = tt
-refuses_by table request old new (status.Input found) (inl (run, is, never)) fault wrong = absurd never
-refuses_by table request old new status.Words (inl (run, is, never)) fault wrong = never
-refuses_by table request old new (status.Input found) (inr (found_is, e)) fault wrong = one_fault table request found fault found_is wrong
-refuses_by table request old new status.Memory (inr a) fault wrong = tt
-refuses_by table request old new (status.ReadFault faults) (inr a) fault wrong = tt
-refuses_by table request old new status.Done (inr (never, e)) fault wrong = never
-refuses_by table request old new status.Words (inr (never, e)) fault wrong = never
-refuses_by table request old new (status.Infeasible scenario) (inr (never, e)) fault wrong = never
-refuses_by table request old new (status.WriteFault faults) (inr (never, e)) fault wrong = never
+refuses_by table request old new s (inl (i, is, wrote)) cause has = absurd (no_cause table request i cause is has)
+refuses_by table request old new (status.Input fault) (inr (own, e)) cause has = one_cause table request (status.Input fault) cause own has
+refuses_by table request old new (status.Wide reach) (inr (own, e)) cause has = one_cause table request (status.Wide reach) cause own has
+refuses_by table request old new (status.ReadFault faults) (inr a) cause has = tt
+refuses_by table request old new status.Memory (inr a) cause has = tt
+refuses_by table request old new status.Done (inr (never, e)) cause has = absurd never
+refuses_by table request old new status.Words (inr (never, e)) cause has = absurd never
+refuses_by table request old new (status.Infeasible scenario) (inr (never, e)) cause has = absurd never
+refuses_by table request old new (status.Spent scenario opened) (inr (never, e)) cause has = absurd never
+refuses_by table request old new (status.WriteFault faults) (inr (never, e)) cause has = absurd never
 
 -- the same where the files are told and the words are well formed
 pub completes : (files : Option FileTable) (asked : Option Request) (old new : Option (List ℕ)) (r u w v : ℕ) (s : Status) →

@@ -1,30 +1,36 @@
--- why the top call answers a status, and what was written then
-
+-- Why the top call answers a status, and what was written then.
 use Rattle.std.specs.Prelude.{◌≡◌, ◌⊎◌, ℕ, List, Option, None, Some, IfSome, Result, Ok, Err}
 use Rattle.io_edge.specs.Shelves.{FileTable}
-use Rattle.sppy_cli.specs.Files.{HasFault, IsRunFor}
-use Rattle.sppy_cli.specs.RunText.{WritesWait}
-use Rattle.sppy_cli.specs.Words.{Request}
-use Rattle.sppy_cli.specs.declared.run.Run.{Run}
+use Rattle.run_words.specs.Words.{Request}
+use Rattle.sppy_cli.specs.Causes.{AreReadFrom, IsCause, IsInstanceOf}
+use Rattle.sppy_cli.specs.Texts.{Writes}
+use Rattle.sppy_cli.specs.declared.instance.Triple.{Triple}
+use Rattle.sppy_cli.specs.declared.instance.Instance.{Instance}
 use Rattle.sppy_cli.specs.declared.status.Status.{Status}
 use Rattle.sppy_cli.specs.declared.status.Status.TheVariants as status
 
--- why a request has no run: its first wrong file, a failed load, or want of memory
+-- why a request has no run: a cause in its files, where these are told; a failed load; or want of memory
 abbrev pub HasNoRun : Option FileTable → Request → Status → Type 0
-HasNoRun files request (status.Input fault) = IfSome files (λ table. HasFault table request fault)
+HasNoRun files request (status.Input fault) = IfSome files (λ table. IsCause table request (status.Input fault))
+HasNoRun files request (status.Wide reach) = IfSome files (λ table. IsCause table request (status.Wide reach))
 HasNoRun files request (status.ReadFault faults) = Unit {0}
 HasNoRun files request status.Memory = Unit {0}
 HasNoRun files request _ = ⊥
 
--- the run of a request, or why there is none
-abbrev pub LoadsRun : Option FileTable → Request → Result Run Status → Type 0
-LoadsRun files request (Ok run) = IsRunFor files request run
-LoadsRun files request (Err status) = HasNoRun files request status
+-- the data of a request's files, or why there is no run
+abbrev pub LoadsFiles : Option FileTable → Request → Result Triple Status → Type 0
+LoadsFiles files request (Ok triple) = AreReadFrom files request triple
+LoadsFiles files request (Err status) = HasNoRun files request status
+
+-- the instance of a request, or why there is none
+abbrev pub LoadsInstance : Option FileTable → Request → Result Instance Status → Type 0
+LoadsInstance files request (Ok instance) = IsInstanceOf files request instance
+LoadsInstance files request (Err status) = HasNoRun files request status
 
 -- a request is answered by its run, of which the text is written; or there is none, and nothing is written
 abbrev pub AnswersRequest : Option FileTable → Request → Option (List ℕ) → Option (List ℕ) → Status → Type 0
 AnswersRequest files request old new status =
-    ((run : Run) × IsRunFor files request run × WritesWait run old new status)
+    ((instance : Instance) × IsInstanceOf files request instance × Writes request.action instance old new status)
     ⊎ (HasNoRun files request status × (new ≡ old))
 
 -- nothing is written where the words ask for nothing

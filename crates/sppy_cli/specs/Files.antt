@@ -1,86 +1,66 @@
--- what the files of a request say, and which of them is the first wrong one
-
-use Rattle.std.specs.Prelude.{◌≡◌, ℕ, ◌<◌, ◌≤◌, List, length, Option, Some, None, nat_le, if◌then◌else◌}
+-- What the three files of a request say: their data, or their first fault.
+use Rattle.std.specs.Prelude.{◌≡◌, ℕ, List, length, Option, Some, None, Result, Ok, Err, nat_le, if◌then◌else◌}
 use Rattle.std.specs.FinMap.{get}
+use Rattle.core_lines.specs.Meaning.{meaning}
+use Rattle.core_lines.specs.Parts.{Before}
 use Rattle.io_edge.specs.Shelves.{FileTable}
-use Rattle.sppy_cli.specs.CoreFile.{core_of}
-use Rattle.sppy_cli.specs.Runs.{IsRunOf}
-use Rattle.sppy_cli.specs.StochFile.{branches_of}
-use Rattle.sppy_cli.specs.TimeFile.{periods_of}
-use Rattle.sppy_cli.specs.Words.{Request}
-use Rattle.sppy_cli.specs.declared.core_file.Core.{Core}
-use Rattle.sppy_cli.specs.declared.run.Run.{Run}
-use Rattle.sppy_cli.specs.declared.status.InputFault.{InputFault}
-use Rattle.sppy_cli.specs.declared.status.InputFile.{InputFile}
-use Rattle.sppy_cli.specs.declared.status.InputFile.TheVariants as file
+use Rattle.run_words.specs.Words.{Request}
+use Rattle.smps_core.specs.CoreData.{IsCoreOf}
+use Rattle.smps_stoch.specs.StochMeaning.{stoch_meaning}
+use Rattle.smps_stoch.specs.declared.stoch.Stoch.{Stoch}
+use Rattle.smps_time.specs.TimeAnswers.{PeriodsData, data_of, names_of, time_meaning}
+use Rattle.smps_words.specs.declared.core_file.Core.{Core}
+use Rattle.smps_words.specs.declared.periods.Periods.{Periods}
+use Rattle.sppy_cli.specs.declared.instance.Triple.{Triple}
 use Rattle.sppy_cli.specs.declared.status.InputKind.{InputKind}
 use Rattle.sppy_cli.specs.declared.status.InputKind.TheVariants as kind
-use Rattle.sppy_cli.specs.declared.stoch_file.Branch.{Branch}
-use Rattle.sppy_cli.specs.declared.time_file.Periods.{Periods}
 
 -- 64 MB
 abbrev pub max_file_bytes : ℕ
 max_file_bytes = 67108864
 
--- what a file says, where it is there and not too long
-abbrev pub said_by : {X : Type 0} → (List ℕ → Option X) → Option (List ℕ) → Option X
-said_by read None = None
-said_by read (Some bytes) = if nat_le (length bytes) max_file_bytes then read bytes else None
+-- a fault with its kind told as the kind of a file
+abbrev pub told_as : {X K : Type 0} → (K → InputKind) → Result X (ℕ × K) → Result X (ℕ × InputKind)
+told_as kind_of (Ok x) = Ok x
+told_as kind_of (Err (line, k)) = Err (line, kind_of k)
 
--- what the core, time and stoch file of a request say
-abbrev pub core_at : FileTable → Request → Option Core
-core_at table request = said_by core_of (get table request.core)
+-- what a file says by the meaning of its bytes: nothing where it isn't there, and a fault of the whole where it is too long
+abbrev pub said_by : {X K : Type 0} → (K → InputKind) → (List ℕ → Result X (ℕ × K)) → Option (List ℕ) → Option (Result X (ℕ × InputKind))
+said_by kind_of means None = None
+said_by kind_of means (Some bytes) = Some (if nat_le (length bytes) max_file_bytes then told_as kind_of (means bytes) else Err (0, kind.TooLong))
 
-abbrev pub periods_at : FileTable → Request → Core → Option Periods
-periods_at table request core = said_by (periods_of core) (get table request.time)
+-- what the core file says, the time file beside a core, and the stoch file beside both
+abbrev pub core_file : Option (List ℕ) → Option (Result Before (ℕ × InputKind))
+core_file file = said_by kind.Core meaning file
 
-abbrev pub branches_at : FileTable → Request → Core → Periods → Option (List Branch)
-branches_at table request core periods =
-    said_by (branches_of core periods) (get table request.stoch)
+abbrev pub time_file : Core → Option (List ℕ) → Option (Result PeriodsData (ℕ × InputKind))
+time_file core file = said_by kind.Time (time_meaning (names_of core)) file
 
--- the run of a request: what its three files say, with its options
-pub record IsRunIn (table : FileTable) (request : Request) (run : Run) : Type 0 where
-  pub core : Core
-  pub periods : Periods
-  pub branches : List Branch
-  pub core_is : core_at table request ≡ Some core
-  pub periods_are : periods_at table request core ≡ Some periods
-  pub branches_are : branches_at table request core periods ≡ Some branches
-  pub run_is : IsRunOf core periods branches request.options run
+abbrev pub stoch_file : Core → Periods → Option (List ℕ) → Option (Result Stoch (ℕ × InputKind))
+stoch_file core periods file = said_by kind.Stoch (stoch_meaning core periods) file
 
--- the same where the files are told; else a run with the options of the request
-abbrev pub IsRunFor : Option FileTable → Request → Run → Type 0
-IsRunFor None request run = run.options ≡ request.options
-IsRunFor (Some table) request run = IsRunIn table request run
+-- a file says data that these show
+abbrev pub IsSaid : {V X : Type 0} → (V → X → Type 0) → Option (Result V (ℕ × InputKind)) → X → Type 0
+IsSaid {V} shows said x = (v : V) × (said ≡ Some (Ok v)) × shows v x
 
--- what is wrong with a file that is there
-abbrev pub IsWrong : {X : Type 0} → (List ℕ → Option X) → Option (List ℕ) → InputKind → Type 0
-IsWrong read None kind = ⊥
-IsWrong read (Some bytes) kind.TooLong = max_file_bytes < length bytes
-IsWrong read (Some bytes) kind.Unbuilt = (length bytes ≤ max_file_bytes) × (read bytes ≡ None)
+-- the core of a core file, the periods of a time file, and the data of a stoch file
+abbrev pub IsCoreIn : Option (List ℕ) → Core → Type 0
+IsCoreIn file core = IsSaid IsCoreOf (core_file file) core
 
--- the first file of a request that is wrong: those before it are of the small form
-abbrev pub IsWrongAt : FileTable → Request → InputFile → InputKind → Type 0
-IsWrongAt table request file.Core kind = IsWrong core_of (get table request.core) kind
-IsWrongAt table request file.Time kind =
-    (core : Core)
-    × (core_at table request ≡ Some core)
-    × IsWrong (periods_of core) (get table request.time) kind
-IsWrongAt table request file.Stoch kind =
-    (core : Core) × (periods : Periods)
-    × (core_at table request ≡ Some core)
-    × (periods_at table request core ≡ Some periods)
-    × IsWrong (branches_of core periods) (get table request.stoch) kind
+abbrev pub ShowsPeriods : PeriodsData → Periods → Type 0
+ShowsPeriods v periods = v ≡ data_of periods
 
--- a fault is that of the first wrong file, and of the file as a whole
-abbrev pub HasFault : FileTable → Request → InputFault → Type 0
-HasFault table request fault = (fault.line ≡ 0) × IsWrongAt table request fault.file fault.kind
+abbrev pub ArePeriodsIn : Core → Option (List ℕ) → Periods → Type 0
+ArePeriodsIn core file periods = IsSaid ShowsPeriods (time_file core file) periods
 
--- the files before this one are there, not too long, and of the small form
-abbrev pub AreSmallBefore : FileTable → Request → InputFile → Type 0
-AreSmallBefore table request file.Core = Unit {0}
-AreSmallBefore table request file.Time = (core : Core) × (core_at table request ≡ Some core)
-AreSmallBefore table request file.Stoch =
-    (core : Core) × (periods : Periods)
-    × (core_at table request ≡ Some core)
-    × (periods_at table request core ≡ Some periods)
+abbrev pub ShowsStoch : Stoch → Stoch → Type 0
+ShowsStoch v stoch = v ≡ stoch
+
+abbrev pub IsStochIn : Core → Periods → Option (List ℕ) → Stoch → Type 0
+IsStochIn core periods file stoch = IsSaid ShowsStoch (stoch_file core periods file) stoch
+
+-- the three files of a request say these data, each beside those before it
+pub record AreRead (table : FileTable) (request : Request) (triple : Triple) : Type 0 where
+  pub core_is : IsCoreIn (get table request.core) triple.core
+  pub periods_are : ArePeriodsIn triple.core (get table request.time) triple.periods
+  pub stoch_is : IsStochIn triple.core triple.periods (get table request.stoch) triple.stoch

@@ -1,35 +1,22 @@
--- what a status is, as the user sees it and as the other definitions ask it
-
+-- What a status is, as the user sees it and as the other definitions ask it.
 use Rattle.std.specs.Prelude.{ℕ, List, [], ◌+◌, ◌++◌, codes, decimal, Option, Some, None, Result, Ok, Err}
+use Rattle.sppy_cli.specs.Kinds.{file_word, kind_word}
 use Rattle.sppy_cli.specs.declared.status.InputFault.{InputFault}
-use Rattle.sppy_cli.specs.declared.status.InputFile.{InputFile}
-use Rattle.sppy_cli.specs.declared.status.InputFile.TheVariants.{Core, Time, Stoch}
-use Rattle.sppy_cli.specs.declared.status.InputKind.{InputKind}
-use Rattle.sppy_cli.specs.declared.status.InputKind.TheVariants.{TooLong, Unbuilt}
 use Rattle.sppy_cli.specs.declared.status.Status.{Status}
 use Rattle.sppy_cli.specs.declared.status.Status.TheVariants as status
-use Rattle.sppy_cli.specs.Texts.{line_of}
+use Rattle.text_lines.specs.Lines.{line_of}
 
--- the exit status; 1, 5 and 6 are of no status here
+-- the exit status; 1 is of no status here
 abbrev pub code_of : Status → ℕ
 code_of status.Done = 0
 code_of status.Words = 2
 code_of (status.Input fault) = 3
 code_of (status.Infeasible scenario) = 4
+code_of (status.Spent scenario opened) = 5
+code_of (status.Wide reach) = 6
 code_of (status.ReadFault faults) = 7
 code_of (status.WriteFault faults) = 8
 code_of status.Memory = 9
-
--- a file by its part in the command
-abbrev pub file_word : InputFile → List ℕ
-file_word Core = codes "core"
-file_word Time = codes "time"
-file_word Stoch = codes "stoch"
-
--- the name of a kind of fault
-abbrev pub kind_word : InputKind → List ℕ
-kind_word TooLong = codes "TooLong"
-kind_word Unbuilt = codes "Unbuilt"
 
 -- a fault of a file, its line and its kind
 abbrev pub fault_text : InputFault → List ℕ
@@ -42,6 +29,8 @@ status_line status.Done = []
 status_line status.Words = line_of (codes "sppy: words")
 status_line (status.Input fault) = line_of (codes "sppy: " ++ fault_text fault)
 status_line (status.Infeasible scenario) = line_of (codes "sppy: infeasible " ++ decimal (scenario + 1))
+status_line (status.Spent scenario opened) = line_of (codes "sppy: spent " ++ decimal (scenario + 1) ++ codes " opened " ++ decimal opened)
+status_line (status.Wide reach) = line_of (codes "sppy: wide " ++ decimal reach)
 status_line (status.ReadFault faults) = line_of (codes "sppy: read fault " ++ decimal faults)
 status_line (status.WriteFault faults) = line_of (codes "sppy: write fault " ++ decimal faults)
 status_line status.Memory = line_of (codes "sppy: memory")

@@ -1,38 +1,98 @@
--- the lines that are written
+-- The text of an instance, and what of it stands written by the status.
+use Rattle.std.specs.Prelude.{◌≡◌, ◌⊎◌, ℕ, ℤ, List, ◌++◌, Option, Some, Result, Ok, Err}
+use Rattle.std.specs.List.{concat}
+use Rattle.io_edge.specs.Sinks.{AppendsFront, appended}
+use Rattle.join_words.specs.Framing.{frame_of, joined}
+use Rattle.run_words.specs.declared.command.Action.{Action}
+use Rattle.run_words.specs.declared.command.Action.TheVariants.{Wait, Show}
+use Rattle.sp_model.specs.Problems.{wait_and_see_of}
+use Rattle.sppy_cli.specs.declared.instance.Instance.{Instance}
+use Rattle.sppy_cli.specs.declared.status.Status.{Status}
+use Rattle.sppy_cli.specs.declared.status.Status.TheVariants as status
+use Rattle.text_lines.specs.BoundLines.{IsBoundText}
+use Rattle.text_lines.specs.Headings.{heading_of, unit_of}
+use Rattle.text_lines.specs.ShowLines.{show_lines_of}
+use Rattle.wait_and_see.specs.WaitAnswers.{IsFirstInfeasible, IsSpent}
 
-use Rattle.std.specs.Prelude.{◌≡◌, ℕ, ℤ, List, [], ◌∷◌, ◌++◌, ◌<◌, length, codes, decimal}
-use Rattle.std.specs.Fmt.{signed_decimal}
-use Rattle.std.specs.List.{All}
-use Rattle.wide_num.specs.declared.fraction.Fraction.{Fraction}
-use Rattle.wide_num.specs.FractionText.{text_of}
-use Rattle.wide_num.specs.LowestTerms.{IsLowest}
-use Rattle.sppy_cli.specs.declared.texts.Heading.{Heading}
+-- the text of the heading
+abbrev pub heading_text : Instance → List ℕ
+heading_text i = concat (heading_of i.triple.core i.run)
 
--- a line: its text and a newline (10)
-abbrev pub line_of : List ℕ → List ℕ
-line_of text = text ++ 10 ∷ []
+-- the places of the power of ten by which each row was multiplied
+abbrev pub places_of : Instance → List ℕ
+places_of i = (frame_of (joined i.triple.core i.triple.periods i.triple.stoch i.run.options.missing)).row_places
 
--- no line is empty
-abbrev pub AreFull : List (List ℕ) → Type 0
-AreFull lines = All (λ line. 0 < length line) lines
+-- the text of `wait` behind the heading: the wait-and-see bound as the first pair and the last
+abbrev pub IsWaitRest : Instance → List ℕ → Type 0
+IsWaitRest i rest =
+    (bound : ℤ) × (lines : List (List ℕ))
+    × (wait_and_see_of i.run ≡ Some bound)
+    × IsBoundText bound (unit_of i.run) lines
+    × (rest ≡ concat lines)
 
--- the four lines of the heading
-abbrev pub heading_lines : Heading → List (List ℕ)
-heading_lines h =
-    line_of (codes "sppy 1")
-    ∷ line_of (codes "scenarios " ++ decimal h.scenarios ++ codes " periods " ++ decimal h.periods ++ codes " nodes " ++ decimal h.nodes)
-    ∷ line_of (codes "columns " ++ decimal h.columns ++ codes " taken-whole " ++ decimal h.whole ++ codes " rows " ++ decimal h.rows)
-    ∷ line_of (codes "unit 1/" ++ signed_decimal h.unit)
-    ∷ []
+-- the text of `show` behind the heading: columns, rows, and scenarios with the limits of their rows
+abbrev pub show_rest : Instance → List ℕ
+show_rest i = concat (show_lines_of i.triple.core i.run (places_of i))
 
--- the three lines of a lower bound: the first pair, the bound with its value in the costs of the file, and no upper bound
-abbrev pub bound_lines_of : ℤ → Fraction → List (List ℕ)
-bound_lines_of bound value =
-    line_of (codes "first " ++ signed_decimal bound ++ codes " none")
-    ∷ line_of (codes "lower " ++ signed_decimal bound ++ codes " = " ++ text_of value)
-    ∷ line_of (codes "upper none")
-    ∷ []
+-- the text of a command behind the heading
+abbrev pub IsRest : Action → Instance → List ℕ → Type 0
+IsRest Wait i rest = IsWaitRest i rest
+IsRest Show i rest = rest ≡ show_rest i
 
--- the lines of a bound; its value is bound / unit in lowest terms
-abbrev pub IsBoundText : ℤ → ℤ → List (List ℕ) → Type 0
-IsBoundText bound unit lines = (value : Fraction) × IsLowest bound unit value × (lines ≡ bound_lines_of bound value)
+-- the whole text of a command
+abbrev pub IsText : Action → Instance → List ℕ → Type 0
+IsText action i text = (rest : List ℕ) × IsRest action i rest × (text ≡ heading_text i ++ rest)
+
+-- a front of the text was written: of the heading, or, where the command has a text, of the whole
+abbrev pub WritesFront : Action → Instance → Option (List ℕ) → Option (List ℕ) → Type 0
+WritesFront action i old new =
+    AppendsFront old new (heading_text i)
+    ⊎ ((text : List ℕ) × IsText action i text × AppendsFront old new text)
+
+-- how a command ends that has its run, and what of its text was written then
+abbrev pub Writes : Action → Instance → Option (List ℕ) → Option (List ℕ) → Status → Type 0
+Writes action i old new status.Done = (text : List ℕ) × IsText action i text × (new ≡ appended old text)
+Writes action i old new (status.Infeasible scenario) =
+    (action ≡ Wait) × IsFirstInfeasible i.run scenario × (new ≡ appended old (heading_text i))
+Writes action i old new (status.Spent scenario opened) =
+    (action ≡ Wait) × IsSpent i.run scenario opened × (new ≡ appended old (heading_text i))
+Writes action i old new (status.WriteFault faults) = WritesFront action i old new
+Writes action i old new status.Memory = WritesFront action i old new
+Writes action i old new _ = ⊥
+
+-- a text was cut where a put failed or memory was refused: a front of it was written
+abbrev pub CutsText : List ℕ → Option (List ℕ) → Option (List ℕ) → Status → Type 0
+CutsText text old new (status.WriteFault faults) = AppendsFront old new text
+CutsText text old new status.Memory = AppendsFront old new text
+CutsText text old new _ = ⊥
+
+-- a text was put, or cut
+abbrev pub PutsText : {U : Type 0} → List ℕ → Option (List ℕ) → Option (List ℕ) → Result U Status → Type 0
+PutsText text old new (Ok _) = new ≡ appended old text
+PutsText text old new (Err status) = CutsText text old new status
+
+-- how the rest of a text ends: it was put whole; a front of it was put, or nothing; or nothing, for this reason
+abbrev pub WritesRest : Action → Instance → Option (List ℕ) → Option (List ℕ) → Status → Type 0
+WritesRest action i old new status.Done = (rest : List ℕ) × IsRest action i rest × (new ≡ appended old rest)
+WritesRest action i old new (status.Infeasible scenario) = (action ≡ Wait) × IsFirstInfeasible i.run scenario × (new ≡ old)
+WritesRest action i old new (status.Spent scenario opened) = (action ≡ Wait) × IsSpent i.run scenario opened × (new ≡ old)
+WritesRest action i old new (status.WriteFault faults) = (rest : List ℕ) × IsRest action i rest × AppendsFront old new rest
+WritesRest action i old new status.Memory = (new ≡ old) ⊎ ((rest : List ℕ) × IsRest action i rest × AppendsFront old new rest)
+WritesRest action i old new _ = ⊥
+
+-- a front of the lines of a bound was written
+abbrev pub WritesBoundFront : Instance → ℤ → Option (List ℕ) → Option (List ℕ) → Type 0
+WritesBoundFront i bound old new =
+    (lines : List (List ℕ)) × IsBoundText bound (unit_of i.run) lines × AppendsFront old new (concat lines)
+
+-- the lines of a bound were cut so; none of them was put where there was no memory to make them
+abbrev pub CutsBound : Instance → ℤ → Option (List ℕ) → Option (List ℕ) → Status → Type 0
+CutsBound i bound old new (status.WriteFault faults) = WritesBoundFront i bound old new
+CutsBound i bound old new status.Memory = (new ≡ old) ⊎ WritesBoundFront i bound old new
+CutsBound i bound old new _ = ⊥
+
+-- the lines of a bound were put, or cut
+abbrev pub PutsBound : {U : Type 0} → Instance → ℤ → Option (List ℕ) → Option (List ℕ) → Result U Status → Type 0
+PutsBound i bound old new (Ok _) =
+    (lines : List (List ℕ)) × IsBoundText bound (unit_of i.run) lines × (new ≡ appended old (concat lines))
+PutsBound i bound old new (Err status) = CutsBound i bound old new status

@@ -1,38 +1,45 @@
 ghost use Rattle.std.specs.Prelude.{◌≡◌, ◌↔◌, None, map, string_bytes};
 ghost use Rattle.io_edge.specs.Faults.{CountsTo};
+ghost use Rattle.run_words.specs.Words.{command_of};
+ghost use Rattle.sppy_cli.specs.Causes.{KeepsFacts};
 ghost use Rattle.sppy_cli.specs.Complete.{Completes, Refuses};
 ghost use Rattle.sppy_cli.specs.Desk.{Answers};
 ghost use Rattle.sppy_cli.specs.InTurn.{LoadsNames};
-ghost use Rattle.sppy_cli.specs.RunText.{WritesWait};
 ghost use Rattle.sppy_cli.specs.Statuses.{read_fault_of, write_fault_of};
-ghost use Rattle.sppy_cli.specs.Words.{command_of};
+ghost use Rattle.sppy_cli.specs.Texts.{Writes, WritesRest};
 
-use crate::puts::{put_bound, put_heading};
-use crate::run::Run;
-use crate::run_files::load_run;
+use crate::instance::Instance;
+use crate::puts::put_heading;
+use crate::reading::load_instance;
+use crate::showing::write_show;
 use crate::status::Status;
-use crate::wait::{WaitFault, wait_and_see};
-use crate::words::read_words;
+use crate::waiting::write_wait;
 use io_edge::{Shelf, Sink};
+use run_words::{Action, read_words};
 use std::alloc::Global;
 
-// Writes the heading of a run, and its wait-and-see bound as the first pair and the last.
-fn write_wait<K: Sink>(alloc: Global, run: &Run, out: &mut K) -> Status
-    ensures written { WritesWait run.now (K.written out.old) (K.written out.new) result }
+// Writes what a command tells behind the heading.
+fn write_rest<K: Sink>(alloc: Global, out: &mut K, action: Action, instance: &Instance) -> Status
+    requires { KeepsFacts instance.now.triple }
+    ensures written { WritesRest action instance.now (K.written out.old) (K.written out.new) result }
     ensures count { CountsTo (K.count out.old) (K.count out.new) (write_fault_of result) }
     ensures read { read_fault_of result ≡ None }
 {
-    match put_heading(alloc, out, run) {
-        Ok(()) => (),
-        Err(status) => return status,
+    match action {
+        Action::Wait => write_wait(alloc, out, instance),
+        Action::Show => write_show(alloc, out, instance),
     }
-    let bound = match wait_and_see(alloc, run) {
-        Ok(bound) => bound,
-        Err(WaitFault::Infeasible { scenario }) => return Status::Infeasible { scenario },
-        Err(WaitFault::Memory) => return Status::Memory,
-    };
-    match put_bound(alloc, out, run, bound) {
-        Ok(()) => Status::Done,
+}
+
+// Writes the text of a command.
+fn write_text<K: Sink>(alloc: Global, out: &mut K, action: Action, instance: &Instance) -> Status
+    requires { KeepsFacts instance.now.triple }
+    ensures written { Writes action instance.now (K.written out.old) (K.written out.new) result }
+    ensures count { CountsTo (K.count out.old) (K.count out.new) (write_fault_of result) }
+    ensures read { read_fault_of result ≡ None }
+{
+    match put_heading(alloc, out, instance) {
+        Ok(()) => write_rest(alloc, out, action, instance),
         Err(status) => status,
     }
 }
@@ -55,10 +62,10 @@ pub fn desk<S: Shelf, K: Sink>(
     ensures answers { Answers (S.files shelf.old) (command_of (map string_bytes words.now))
         (K.written out.old) (K.written out.new) result }
 
-    // the first wrong file is the fault that is answered
+    // a cause why the files make no run is the one that is answered
     ensures refuses { Refuses (S.files shelf.old) (command_of (map string_bytes words.now)) result }
 
-    // where no file is wrong and no fault is counted, the run ends by its points
+    // where the files make a run and no fault is counted, the command ends by its run
     ensures complete { Completes (S.files shelf.old) (command_of (map string_bytes words.now))
         (S.count shelf.old) (S.count shelf.new) (K.count out.old) (K.count out.new) result }
 
@@ -66,7 +73,7 @@ pub fn desk<S: Shelf, K: Sink>(
     ensures reads { CountsTo (S.count shelf.old) (S.count shelf.new) (read_fault_of result) }
     ensures writes { CountsTo (K.count out.old) (K.count out.new) (write_fault_of result) }
 
-    // the command's files are loaded in turn, each only after those before it are of the form
+    // the command's files are loaded in turn, each only after those before it have no fault
     ensures names { LoadsNames (S.files shelf.old) (command_of (map string_bytes words.now))
         (S.names shelf.old) (S.names shelf.new) result }
 
@@ -76,8 +83,8 @@ pub fn desk<S: Shelf, K: Sink>(
     let Some(command) = read_words(words) else {
         return Status::Words;
     };
-    match load_run(alloc, shelf, &command) {
-        Ok(run) => write_wait(alloc, &run, out),
+    match load_instance(alloc, shelf, &command) {
+        Ok(instance) => write_text(alloc, out, command.action, &instance),
         Err(status) => status,
     }
 }

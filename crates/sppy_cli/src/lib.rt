@@ -2,39 +2,25 @@
 //! program's words ask for and answers a `Status`.
 #![tactic(auto)]
 
+mod code;
 mod commands;
-mod core_data;
-mod core_file;
-mod core_form;
-mod core_limits;
-mod core_read;
-mod form;
-mod join;
+mod instance;
+mod kinds;
+mod line;
 mod loads;
-mod lookup;
-mod numeral;
-mod problem;
-mod program;
 mod puts;
+mod reading;
 mod reporting;
-mod run;
-mod run_files;
+mod showing;
 mod status;
-mod stoch_file;
-mod stoch_form;
-mod stoch_read;
-#[cfg(test)]
-mod tests_read;
-#[cfg(test)]
-mod tests_text;
-mod texts;
-mod time_file;
-mod time_read;
-mod wait;
-mod words;
+mod waiting;
 mod writer;
 
 pub use commands::desk;
+pub use core_lines::CoreKind;
+pub use instance::Instance;
 pub use loads::MAX_FILE_BYTES;
 pub use reporting::report;
-pub use status::{InputFault, InputFile, InputKind, Status};
+pub use smps_time::TimeKind;
+pub use status::{InputFault, InputFile, InputKind, JoinKind, Status};
+pub use stoch_lines::StochKind;

@@ -1,22 +1,19 @@
-ghost use Rattle.std.specs.Prelude.{◌≡◌, IfOk};
+ghost use Rattle.std.specs.Prelude.{◌≡◌, ◌<◌, IfOk, length};
 ghost use Rattle.io_edge.specs.Faults.{CountsTo};
-ghost use Rattle.sppy_cli.specs.CoreFile.{IsCore, core_of};
-ghost use Rattle.sppy_cli.specs.Loads.{Loads, LoadsBytes, LoadsName, fault_of_refusal, load_fault_of, status_of_file};
+ghost use Rattle.smps_core.specs.CoreData.{IsCoreOf};
+ghost use Rattle.smps_stoch.specs.StochFacts.{StochFacts};
+ghost use Rattle.smps_words.specs.declared.periods.Periods.{Periods};
+ghost use Rattle.sppy_cli.specs.Files.{ShowsPeriods, ShowsStoch, core_file, stoch_file, time_file};
+ghost use Rattle.sppy_cli.specs.Loads.{Loads, LoadsBytes, LoadsName, load_fault_of, status_of_file};
 ghost use Rattle.sppy_cli.specs.Statuses.{reported};
-ghost use Rattle.sppy_cli.specs.StochFile.{AreBranches, branches_of};
-ghost use Rattle.sppy_cli.specs.TimeFile.{periods_of};
 
-use crate::core_file::Core;
-use crate::core_read::read_core;
-use crate::form::Refusal;
 use crate::status::{InputFault, InputFile, InputKind, Status};
-use crate::stoch_file::Branch;
-use crate::stoch_read::read_stoch;
-use crate::time_file::Periods;
-use crate::time_read::read_time;
 use io_edge::{LoadFault, Shelf};
+use smps_core::{CoreFault, read_core};
+use smps_stoch::{Stoch, StochFault, read_stoch};
+use smps_time::{TimeFault, read_time};
+use smps_words::{Core, Periods};
 use std::alloc::Global;
-use wide_num::List;
 
 /// The greatest length of a file, in bytes.
 pub const MAX_FILE_BYTES: usize = 67108864;
@@ -24,8 +21,8 @@ pub const MAX_FILE_BYTES: usize = 67108864;
 /// Why a file isn't read.
 #[derive(Clone, Copy, Debug, Drop, PartialEq, Eq)]
 pub enum FileFault {
-    /// It is too long, or not of the small form.
-    Wrong(InputKind),
+    /// It is too long, or has this fault first.
+    Wrong { line: u64, kind: InputKind },
     /// The load failed; the shelf's count of faults after it.
     Failed { faults: u64 },
     Memory,
@@ -37,11 +34,7 @@ impl FileFault {
         ensures { result ≡ status_of_file file self }
     {
         match self {
-            FileFault::Wrong(kind) => Status::Input(InputFault {
-                file,
-                line: 0,
-                kind,
-            }),
+            FileFault::Wrong { line, kind } => Status::Input(InputFault { file, line, kind }),
             FileFault::Failed { faults } => Status::ReadFault { faults },
             FileFault::Memory => Status::Memory,
         }
@@ -60,25 +53,17 @@ fn load<S: Shelf>(alloc: Global, shelf: &mut S, name: &str) -> Result<Vec<u8>, F
         Err(LoadFault::Failed) => Err(FileFault::Failed {
             faults: shelf.faults(),
         }),
-        Err(LoadFault::TooLong) => Err(FileFault::Wrong(InputKind::TooLong)),
+        Err(LoadFault::TooLong) => Err(FileFault::Wrong {
+            line: 0,
+            kind: InputKind::TooLong,
+        }),
         Err(LoadFault::Memory) => Err(FileFault::Memory),
-    }
-}
-
-// What a reader's refusal means for the file.
-fn refused(refusal: Refusal) -> FileFault
-    ensures { result ≡ fault_of_refusal refusal }
-{
-    match refusal {
-        Refusal::Unbuilt => FileFault::Wrong(InputKind::Unbuilt),
-        Refusal::Memory => FileFault::Memory,
     }
 }
 
 /// Loads and reads a core file.
 pub fn load_core<S: Shelf>(alloc: Global, shelf: &mut S, name: &str) -> Result<Core, FileFault>
-    ensures gives { Loads core_of (S.files shelf.old) name.now result }
-    ensures some { IfOk result IsCore }
+    ensures gives { Loads core_file IsCoreOf (S.files shelf.old) name.now result }
     ensures files { S.files shelf.new ≡ S.files shelf.old }
     ensures names { LoadsName name.now (S.names shelf.old) (S.names shelf.new) result }
     ensures count { CountsTo (S.count shelf.old) (S.count shelf.new) (reported load_fault_of result) }
@@ -86,7 +71,11 @@ pub fn load_core<S: Shelf>(alloc: Global, shelf: &mut S, name: &str) -> Result<C
     let bytes = load(alloc, shelf, name)?;
     match read_core(alloc, &bytes) {
         Ok(core) => Ok(core),
-        Err(refusal) => Err(refused(refusal)),
+        Err(CoreFault::At { line, kind }) => Err(FileFault::Wrong {
+            line,
+            kind: InputKind::Core(kind),
+        }),
+        Err(CoreFault::Memory) => Err(FileFault::Memory),
     }
 }
 
@@ -97,8 +86,8 @@ pub fn load_time<S: Shelf>(
     name: &str,
     core: &Core,
 ) -> Result<Periods, FileFault>
-    requires { IsCore core.now }
-    ensures gives { Loads (periods_of core.now) (S.files shelf.old) name.now result }
+    ensures gives { Loads (time_file core.now) ShowsPeriods (S.files shelf.old) name.now result }
+    ensures columns { IfOk result (λ (_ : Periods). 0 < length core.now.columns) }
     ensures files { S.files shelf.new ≡ S.files shelf.old }
     ensures names { LoadsName name.now (S.names shelf.old) (S.names shelf.new) result }
     ensures count { CountsTo (S.count shelf.old) (S.count shelf.new) (reported load_fault_of result) }
@@ -106,7 +95,11 @@ pub fn load_time<S: Shelf>(
     let bytes = load(alloc, shelf, name)?;
     match read_time(alloc, &bytes, core) {
         Ok(periods) => Ok(periods),
-        Err(refusal) => Err(refused(refusal)),
+        Err(TimeFault::At { line, kind }) => Err(FileFault::Wrong {
+            line,
+            kind: InputKind::Time(kind),
+        }),
+        Err(TimeFault::Memory) => Err(FileFault::Memory),
     }
 }
 
@@ -117,17 +110,20 @@ pub fn load_stoch<S: Shelf>(
     name: &str,
     core: &Core,
     periods: &Periods,
-) -> Result<List<Branch>, FileFault>
-    requires { IsCore core.now }
-    ensures gives { Loads (branches_of core.now periods.now) (S.files shelf.old) name.now result }
-    ensures some { IfOk result (AreBranches core.now periods.now) }
+) -> Result<Stoch, FileFault>
+    ensures gives { Loads (stoch_file core.now periods.now) ShowsStoch (S.files shelf.old) name.now result }
+    ensures beside { IfOk result (λ stoch. StochFacts core.now periods.now stoch) }
     ensures files { S.files shelf.new ≡ S.files shelf.old }
     ensures names { LoadsName name.now (S.names shelf.old) (S.names shelf.new) result }
     ensures count { CountsTo (S.count shelf.old) (S.count shelf.new) (reported load_fault_of result) }
 {
     let bytes = load(alloc, shelf, name)?;
     match read_stoch(alloc, &bytes, core, periods) {
-        Ok(branches) => Ok(branches),
-        Err(refusal) => Err(refused(refusal)),
+        Ok(stoch) => Ok(stoch),
+        Err(StochFault::At { line, kind }) => Err(FileFault::Wrong {
+            line,
+            kind: InputKind::Stoch(kind),
+        }),
+        Err(StochFault::Memory) => Err(FileFault::Memory),
     }
 }

@@ -2,7 +2,7 @@ ghost use Rattle.std.specs.Prelude.{◌≡◌, OnErr, OnOk};
 ghost use Rattle.std.specs.List.{concat};
 ghost use Rattle.io_edge.specs.Faults.{Counts, edge_fault};
 ghost use Rattle.io_edge.specs.Sinks.{AppendsFront, appended};
-ghost use Rattle.sppy_cli.specs.Texts.{AreFull};
+ghost use Rattle.text_lines.specs.Lines.{AreFull};
 
 use io_edge::{EdgeFault, Sink};
 use wide_num::{List, Text};

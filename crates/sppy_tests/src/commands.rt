@@ -1,58 +1,49 @@
-use crate::fixtures::{HARD_STOCH, HEADING, SMALL, TEXT, WAIT, expect, ran, unbuilt, words};
-use io_edge::{SureShelf, SureSink};
-use sppy_cli::{InputFault, InputFile, InputKind, MAX_FILE_BYTES, Status, desk};
+use crate::fixtures::{SMALL, WAIT, input, ran};
+use sppy_cli::{CoreKind, InputFile, InputKind, Status, StochKind, TimeKind};
 use std::test::Fail;
 
+// The first file that has a fault is told, whatever stands behind it.
 #[test]
-fn runs_are_answered(rt: HostRuntime) -> Result<(), Fail> {
+fn files_are_read_in_turn(rt: HostRuntime) -> Result<(), Fail> {
     let alloc = rt.alloc();
     let [core, time, stoch] = SMALL;
-    expect(
-        &rt,
-        &ran(alloc, core, time, stoch)?,
-        Status::Done,
-        TEXT,
-        "the worked example",
-    );
-    expect(
-        &rt,
-        &ran(alloc, core, time, HARD_STOCH)?,
-        Status::Infeasible { scenario: 1 },
-        HEADING,
-        "a demand of 30",
-    );
-    for (core, time, stoch, file) in [
-        (time, time, stoch, InputFile::Core),
-        ("", time, stoch, InputFile::Core),
-        (core, core, stoch, InputFile::Time),
-        (core, time, time, InputFile::Stoch),
-    ] {
-        expect(
-            &rt,
-            &ran(alloc, core, time, stoch)?,
-            unbuilt(file),
+    for (core, time, stoch, file, line, kind) in [
+        (
+            time,
+            time,
+            stoch,
+            InputFile::Core,
+            1,
+            InputKind::Core(CoreKind::Section),
+        ),
+        (
+            core,
+            core,
+            core,
+            InputFile::Time,
+            1,
+            InputKind::Time(TimeKind::Section),
+        ),
+        (
+            core,
+            time,
+            time,
+            InputFile::Stoch,
+            1,
+            InputKind::Stoch(StochKind::Section),
+        ),
+        (
             "",
-            "a file of another form",
-        );
+            "",
+            "",
+            InputFile::Core,
+            0,
+            InputKind::Core(CoreKind::NoEnd),
+        ),
+    ] {
+        let found = ran(alloc, WAIT, core, time, stoch)?;
+        assert_eq!(rt; found.0, input(file, line, kind));
+        assert_eq!(rt; found.1.len(), 0);
     }
-    Ok(())
-}
-
-#[test]
-fn long_files_are_refused(rt: HostRuntime) -> Result<(), Fail> {
-    let alloc = rt.alloc();
-    let long = vec![in alloc; b' '; MAX_FILE_BYTES + 1]?;
-    let mut shelf = SureShelf::new(alloc);
-    shelf.add("core", SMALL[0].as_bytes())?;
-    shelf.add("time", &long)?;
-    let mut out = SureSink::new(alloc);
-    let status = desk(alloc, &words(alloc, &WAIT)?, &mut shelf, &mut out);
-    let fault = InputFault {
-        file: InputFile::Time,
-        line: 0,
-        kind: InputKind::TooLong,
-    };
-    assert_eq!(rt; status, Status::Input(fault));
-    assert_eq!(rt; out.bytes().len(), 0);
     Ok(())
 }

@@ -7,7 +7,7 @@ use std::test::Fail;
 // A run over a shelf and a sink of which these calls fail.
 fn failed(
     alloc: Global,
-    given: &[&str],
+    given: &str,
     load: u64,
     put: u64,
 ) -> Result<(Status, Vec<u8>), AllocError> {
@@ -30,24 +30,37 @@ fn failed(
 #[test]
 fn words_are_refused(rt: HostRuntime) -> Result<(), Fail> {
     let alloc = rt.alloc();
-    let none = failed(alloc, &[], 1, 1)?;
-    expect(&rt, &none, Status::Words, "", "no words");
-    let few = failed(alloc, &["wait", "core", "time"], 1, 1)?;
-    expect(&rt, &few, Status::Words, "", "two files");
-    for (at, word) in [
-        (0, "frob"),
-        (0, "solve"),
-        (1, "-core"),
-        (4, "--rho"),
-        (5, "0"),
-        (5, "1000001"),
-        (5, "+2"),
-        (6, "--scale"),
-        (7, "0"),
+    for given in [
+        "",
+        "frob",
+        "frob core time stoch",
+        "solve core time stoch",
+        "wait core time",
+        "show core time stoch other",
+        "wait -core time stoch",
+        "wait core time -stoch",
+        "wait core time stoch --scale",
+        "wait core time stoch --scale 0",
+        "wait core time stoch --scale 1000001",
+        "wait core time stoch --scale +2",
+        "wait core time stoch --scale 2 --scale 2",
+        "wait core time stoch --rho 1000000001",
+        "wait core time stoch --iterations 100001",
+        "wait core time stoch --box 0",
+        "wait core time stoch --budget 0",
+        "wait core time stoch --budget 1000000001",
+        "wait core time stoch --ranks 1",
+        "wait core time stoch 2 --scale",
+        "wait --scale 2 core time stoch",
+        "wait core time stoch --scale 00000000000000000002",
     ] {
-        let mut given = WAIT;
-        given[at] = word;
-        expect(&rt, &failed(alloc, &given, 1, 1)?, Status::Words, "", word);
+        expect(&rt, &failed(alloc, given, 1, 1)?, Status::Words, "", given);
+    }
+    for given in [
+        "wait core time stoch --rho 1 --scale 0000000000000000002",
+        "wait core time stoch --box 1 --iterations 0 --scale 2 --budget 1000",
+    ] {
+        expect(&rt, &failed(alloc, given, 0, 0)?, Status::Done, TEXT, given);
     }
     Ok(())
 }
@@ -56,14 +69,9 @@ fn words_are_refused(rt: HostRuntime) -> Result<(), Fail> {
 fn each_load_may_fail(rt: HostRuntime) -> Result<(), Fail> {
     let alloc = rt.alloc();
     for load in 1..4 {
-        let found = failed(alloc, &WAIT, load, 0)?;
-        expect(
-            &rt,
-            &found,
-            Status::ReadFault { faults: 1 },
-            "",
-            "a load fails",
-        );
+        let found = failed(alloc, WAIT, load, 0)?;
+        let status = Status::ReadFault { faults: 1 };
+        expect(&rt, &found, status, "", "a load fails");
     }
     Ok(())
 }
@@ -74,15 +82,10 @@ fn each_put_may_fail(rt: HostRuntime) -> Result<(), Fail> {
     // what stands written before each put, by its length in TEXT
     let fronts = [0, 7, 37, 68, HEADING.len(), 92, 105];
     for (at, len) in fronts.iter().enumerate() {
-        let found = failed(alloc, &WAIT, 0, at as u64 + 1)?;
+        let found = failed(alloc, WAIT, 0, at as u64 + 1)?;
         let front = TEXT.get(..*len).unwrap_or("");
-        expect(
-            &rt,
-            &found,
-            Status::WriteFault { faults: 1 },
-            front,
-            "a put fails",
-        );
+        let status = Status::WriteFault { faults: 1 };
+        expect(&rt, &found, status, front, "a put fails");
     }
     Ok(())
 }

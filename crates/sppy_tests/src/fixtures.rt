@@ -10,7 +10,17 @@ pub const SMALL: [&str; 3] = [
     "STOCH SMALL\nSCENARIOS DISCRETE\n SC LOW ROOT 0.5 T2\n RHS NEED 2\n SC HIGH ROOT 0.5 T2\n RHS NEED 6\nENDATA\n",
 ];
 
-/// The stoch file with a demand that no plan meets in the second scenario.
+/// The core and the time file of the worked example PAIR.
+pub const PAIR_CORE: &str =
+    "NAME PAIR\nROWS\n N COST\n G C1\n G C2\nCOLUMNS\n X COST 1 C1 1\n X C2 1\n Y1 COST 3 C1 1\n Y2 COST 3 C2 1\nRHS\n RHS C1 2 C2 1\nBOUNDS\n UP BND X 10\n UP BND Y1 10\n UP BND Y2 10\nENDATA\n";
+
+pub const PAIR_TIME: &str = "PERIODS\n X COST T1\n Y1 C1 T2\nENDATA\n";
+
+/// A stoch file without sections: one scenario with the core's data.
+pub const NO_STOCH: &str = "STOCH\nENDATA\n";
+
+/// The stoch file of SMALL with a demand that no plan meets in the second
+/// scenario.
 pub const HARD_STOCH: &str =
     "STOCH SMALL\nSCENARIOS DISCRETE\n SC LOW ROOT 0.5 T2\n RHS NEED 2\n SC HIGH ROOT 0.5 T2\n RHS NEED 30\nENDATA\n";
 
@@ -23,22 +33,21 @@ pub const TEXT: &str =
     "sppy 1\nscenarios 2 periods 2 nodes 3\ncolumns 2 taken-whole 2 rows 1\nunit 1/20\nfirst 80 none\nlower 80 = 4\nupper none\n";
 
 /// The words of `wait` over files of these names.
-pub const WAIT: [&str; 8] = [
-    "wait", "core", "time", "stoch", "--scale", "2", "--rho", "1",
-];
+pub const WAIT: &str = "wait core time stoch --scale 2 --rho 1";
 
-/// The words as a program is given them.
-pub fn words(alloc: Global, given: &[&str]) -> Result<Vec<String>, AllocError> {
+/// The words as a program is given them: those between blanks.
+pub fn words(alloc: Global, given: &str) -> Result<Vec<String>, AllocError> {
     let mut words = Vec::new(alloc);
-    for word in given {
+    for word in given.split(' ') {
         words.push(String::from_str(alloc, word)?)?;
     }
     Ok(words)
 }
 
-/// What `wait` over these files wrote, and its status, where no call fails.
+/// What a command over these files wrote, and its status, where no call fails.
 pub fn ran(
     alloc: Global,
+    given: &str,
     core: &str,
     time: &str,
     stoch: &str,
@@ -48,7 +57,7 @@ pub fn ran(
     shelf.add("time", time.as_bytes())?;
     shelf.add("stoch", stoch.as_bytes())?;
     let mut out = SureSink::new(alloc);
-    let status = desk(alloc, &words(alloc, &WAIT)?, &mut shelf, &mut out);
+    let status = desk(alloc, &words(alloc, given)?, &mut shelf, &mut out);
     let written = Vec::from_slice(alloc, out.bytes())?;
     Ok((status, written))
 }
@@ -59,11 +68,7 @@ pub fn expect(rt: &impl Abort, found: &(Status, Vec<u8>), status: Status, text: 
     assert_eq!(rt; found.1.as_slice(), text.as_bytes(), "{which}");
 }
 
-/// The status of a file of another form.
-pub fn unbuilt(file: InputFile) -> Status {
-    Status::Input(InputFault {
-        file,
-        line: 0,
-        kind: InputKind::Unbuilt,
-    })
+/// The status of a fault of a file.
+pub fn input(file: InputFile, line: u64, kind: InputKind) -> Status {
+    Status::Input(InputFault { file, line, kind })
 }

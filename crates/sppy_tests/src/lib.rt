@@ -9,6 +9,8 @@ mod failures;
 #[cfg(test)]
 mod fixtures;
 #[cfg(test)]
-mod refusals;
+mod many;
 #[cfg(test)]
 mod reports;
+#[cfg(test)]
+mod rows;

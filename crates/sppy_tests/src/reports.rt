@@ -1,28 +1,42 @@
+use crate::fixtures::input;
 use io_edge::{EdgeFault, MemorySink, SureSink};
-use sppy_cli::{InputFault, InputFile, InputKind, Status, report};
+use sppy_cli::{CoreKind, InputFile, InputKind, JoinKind, Status, StochKind, TimeKind, report};
 use std::test::Fail;
 
 #[test]
 fn statuses_are_told(rt: HostRuntime) -> Result<(), Fail> {
     let alloc = rt.alloc();
-    let fault = |file, line, kind| Status::Input(InputFault { file, line, kind });
     for (status, code, line) in [
         (Status::Done, 0, ""),
         (Status::Words, 2, "sppy: words\n"),
         (
-            fault(InputFile::Stoch, 12, InputKind::Unbuilt),
+            input(
+                InputFile::Stoch,
+                12,
+                InputKind::Stoch(StochKind::EarlyEntry),
+            ),
             3,
-            "sppy: input stoch line 12 Unbuilt\n",
+            "sppy: input stoch line 12 EarlyEntry\n",
         ),
         (
-            fault(InputFile::Core, 0, InputKind::TooLong),
+            input(InputFile::Core, 0, InputKind::TooLong),
             3,
             "sppy: input core line 0 TooLong\n",
         ),
         (
-            fault(InputFile::Time, 0, InputKind::Unbuilt),
+            input(InputFile::Core, 7, InputKind::Core(CoreKind::UnknownColumn)),
             3,
-            "sppy: input time line 0 Unbuilt\n",
+            "sppy: input core line 7 UnknownColumn\n",
+        ),
+        (
+            input(InputFile::Time, 3, InputKind::Time(TimeKind::Order)),
+            3,
+            "sppy: input time line 3 Order\n",
+        ),
+        (
+            input(InputFile::Join, 0, InputKind::Join(JoinKind::TooManyCells)),
+            3,
+            "sppy: input join line 0 TooManyCells\n",
         ),
         (
             Status::Infeasible { scenario: 0 },
@@ -33,6 +47,21 @@ fn statuses_are_told(rt: HostRuntime) -> Result<(), Fail> {
             Status::Infeasible { scenario: u32::MAX },
             4,
             "sppy: infeasible 4294967296\n",
+        ),
+        (
+            Status::Spent {
+                scenario: 2,
+                opened: 17,
+            },
+            5,
+            "sppy: spent 3 opened 17\n",
+        ),
+        (
+            Status::Wide {
+                reach: 170141183460469231731687303715884105728,
+            },
+            6,
+            "sppy: wide 170141183460469231731687303715884105728\n",
         ),
         (Status::ReadFault { faults: 3 }, 7, "sppy: read fault 3\n"),
         (Status::WriteFault { faults: 1 }, 8, "sppy: write fault 1\n"),

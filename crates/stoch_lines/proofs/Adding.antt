@@ -37,7 +37,7 @@ module _ (core : Core) (periods : Periods) where
       ap (fold with_source []) (told_push tells lines line)
       ∙ fold-append with_source [] (told tells [] lines) (tells lines line)
 
-  one_more : (lines : List TextLine) (line : TextLine) → before_of core periods (lines ++ line ∷ []) ≡ next core periods (before_of core periods lines) line
+  pub one_more : (lines : List TextLine) (line : TextLine) → before_of core periods (lines ++ line ∷ []) ≡ next core periods (before_of core periods lines) line
   one_more lines line =
       let nothing = not_nothing lines line in
       let section = section_more lines line in

@@ -1,8 +1,12 @@
 -- The reader's answer, by the arms of its code.
-use Rattle.std.proofs.Common.{◌≡◌, ℕ, ◌+◌, ◌<◌, List, ◌∷◌, length, drop, get_or, Option, Result, Ok, Err, ap, sym, ◌∙◌}
+use Rattle.std.proofs.Common.{◌≡◌, refl, ℕ, ◌+◌, ◌<◌, List, [], ◌∷◌, length, drop, get_or, Option, Result, Ok, Err, ap, sym, ◌∙◌, arith}
 use Rattle.std.proofs.lemmas.List.{drop_more}
 use Rattle.line_core.specs.Lines.{lines_of}
 use Rattle.line_core.specs.declared.line_list.Line.{Line}
+use Rattle.line_core.specs.declared.line_list.LineFault.{LineFault}
+use Rattle.line_core.specs.declared.line_list.LineFault.TheVariants as line_faults
+use Rattle.smps_words.proofs.Asking.{lines_ask}
+use Rattle.smps_words.specs.Memory.{MayRefuse}
 use Rattle.smps_words.specs.Outcomes.{judged}
 use Rattle.smps_words.specs.Outcomes.Outcome.{Faulty}
 use Rattle.smps_words.specs.TextLines.{text_line, text_lines}
@@ -15,13 +19,13 @@ use Rattle.stoch_lines.specs.declared.state.State.{State}
 use Rattle.stoch_lines.specs.Before.{Before, next}
 use Rattle.stoch_lines.specs.Faults.{is_end, line_fault}
 use Rattle.stoch_lines.specs.Turns.{Refuses}
-use Rattle.stoch_lines.specs.StochOutcome.{answer_for, read_meaning, said_meaning, stepped, stepped_from, Fails, Gives}
+use Rattle.stoch_lines.specs.StochOutcome.{answer_for, read_meaning, said_meaning, stepped, stepped_from, stepped_meaning, AreSome, Fails, Gives}
 use Rattle.stoch_lines.proofs.Adding.{stepped_is}
 
 module _ (core : Core) (periods : Periods) where
   -- a fault of a line is that of the file, where the lines before it have none
-  pub refused : (bytes : List ℕ) (lines : List Line) (i : ℕ) (line : Line) (before : Before) (fault : StochFault) → i < length lines → line ≡ get_or lines i line → stepped_from core periods before (text_lines bytes (drop i lines)) ≡ stepped core periods (text_lines bytes lines) → Refuses fault (line_fault core periods before (text_line bytes line)) (text_line bytes line) → Fails fault (answer_for (text_lines bytes lines) (stepped core periods (text_lines bytes lines)))
-  refused bytes lines i line before Memory lt at rest refuses = tt
+  pub refused : (bytes : List ℕ) (lines : List Line) (i : ℕ) (line : Line) (before : Before) (fault : StochFault) → i < length lines → line ≡ get_or lines i line → stepped_from core periods before (text_lines bytes (drop i lines)) ≡ stepped core periods (text_lines bytes lines) → Refuses fault (line_fault core periods before (text_line bytes line)) (text_line bytes line) → Fails (AreSome lines) fault (stepped_meaning core periods bytes lines)
+  refused bytes lines i line before Memory lt at rest refuses = omega (arith, lt)
   refused bytes lines i line before (At number kind) lt at rest refuses =
       let text = text_line bytes line in
       let later = drop (i + 1) lines in
@@ -31,14 +35,22 @@ module _ (core : Core) (periods : Periods) where
       ap (answer_for (text_lines bytes lines)) (sym rest ∙ one) ∙ ap (λ (n : ℕ). Err (n, kind)) (sym refuses.0)
 
   -- the meaning of a file that has lines, by what they come to
-  meaning_is : (bytes : List ℕ) (lines : List Line) → lines_of bytes ≡ Ok lines → said_meaning core periods bytes ≡ answer_for (text_lines bytes lines) (stepped core periods (text_lines bytes lines))
+  meaning_is : (bytes : List ℕ) (lines : List Line) → lines_of bytes ≡ Ok lines → said_meaning core periods bytes ≡ stepped_meaning core periods bytes lines
   meaning_is bytes lines is = ap (read_meaning core periods bytes) is ∙ ap (answer_for (text_lines bytes lines)) (sym (stepped_is core periods (text_lines bytes lines)))
 
-  given_as : (result : Result State StochFault) (answer meaning : Result Before (ℕ × StochKind)) → meaning ≡ answer → Gives result answer → Gives result meaning
-  given_as (Ok state) answer meaning same gives = same ∙ gives
-  given_as (Err Memory) answer meaning same gives = tt
-  given_as (Err (At line kind)) answer meaning same gives = same ∙ gives
-
   -- what the lines come to is what the file means
-  pub lines_give : (bytes : List ℕ) (lines : List Line) (result : Result State StochFault) → lines_of bytes ≡ Ok lines → Gives result (answer_for (text_lines bytes lines) (stepped core periods (text_lines bytes lines))) → Gives result (said_meaning core periods bytes)
-  lines_give bytes lines result is gives = given_as result _ _ (meaning_is bytes lines is) gives
+  pub lines_give : (bytes : List ℕ) (lines : List Line) (result : Result State StochFault) → lines_of bytes ≡ Ok lines → Gives (AreSome lines) result (stepped_meaning core periods bytes lines) → Gives (MayRefuse bytes) result (said_meaning core periods bytes)
+  lines_give bytes lines (Ok state) is gives = meaning_is bytes lines is ∙ gives
+  lines_give bytes lines (Err Memory) is some = lines_ask bytes lines is some
+  lines_give bytes lines (Err (At line kind)) is gives = meaning_is bytes lines is ∙ gives
+
+  -- a file that means something has lines, and asks for memory
+  asks_by : (bytes : List ℕ) (found : Result (List Line) LineFault) (b : Before) → lines_of bytes ≡ found → read_meaning core periods bytes found ≡ Ok b → MayRefuse bytes
+  asks_by bytes (Ok []) b is means = absurd (cc means)
+  asks_by bytes (Ok (line ∷ lines)) b is means = lines_ask bytes (line ∷ lines) is (omega arith)
+  asks_by bytes (Err (line_faults.NotAscii line)) b is means = absurd (cc means)
+  asks_by bytes (Err (line_faults.TooLong line)) b is means = absurd (cc means)
+  asks_by bytes (Err line_faults.Memory) b is means = absurd (cc means)
+
+  pub asks : (bytes : List ℕ) (b : Before) → said_meaning core periods bytes ≡ Ok b → MayRefuse bytes
+  asks bytes b means = asks_by bytes (lines_of bytes) b refl means

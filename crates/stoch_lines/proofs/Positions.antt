@@ -19,7 +19,7 @@ below_step : (b rest : Bool) (n len : ℕ) → (rest ≡ false → n ≡ len) �
 below_step true rest n len on e = absurd (cc e)
 below_step false rest n len on e = omega (arith, on e)
 
-none_passes : {X : Type 0} (p : X → Bool) (xs : List X) → list_any p xs ≡ false → position_or_len p xs ≡ length xs
+pub none_passes : {X : Type 0} (p : X → Bool) (xs : List X) → list_any p xs ≡ false → position_or_len p xs ≡ length xs
 none_passes p [] e = refl
 none_passes p (x ∷ xs) e = below_step (p x) (list_any p xs) (position_or_len p xs) (length xs) (none_passes p xs) e
 
@@ -27,7 +27,7 @@ above_step : (b rest : Bool) (n len : ℕ) → (rest ≡ true → n < len) → (
 above_step true rest n len on e = omega arith
 above_step false rest n len on e = omega (arith, on e)
 
-some_passes : {X : Type 0} (p : X → Bool) (xs : List X) → list_any p xs ≡ true → position_or_len p xs < length xs
+pub some_passes : {X : Type 0} (p : X → Bool) (xs : List X) → list_any p xs ≡ true → position_or_len p xs < length xs
 some_passes p [] e = absurd (cc e)
 some_passes p (x ∷ xs) e = above_step (p x) (list_any p xs) (position_or_len p xs) (length xs) (some_passes p xs) e
 

@@ -36,7 +36,7 @@ pub record Before : Type 0 where
 abbrev pub section_of : List TextLine → Option Heading
 section_of lines = latest (λ line. line.header) (λ line. heading_of (field 0 line)) None lines
 
--- whether a line that begins a realisation or a scenario stands behind the last header
+-- whether a line whose first field begins a realisation or a scenario stands behind the last header
 abbrev pub begun_of : List TextLine → Bool
 begun_of lines = latest opens_or_ends (λ line. not line.header) false lines
 

@@ -215,12 +215,21 @@ may_follow (Some Scenarios) section = is_none section
 may_follow (Some _) (Some Scenarios) = false
 may_follow (Some _) _ = true
 
+-- whether one word stands behind a section's name, DISCRETE or REPLACE
+abbrev pub has_one_mode : TextLine → Bool
+has_one_mode line =
+    (field_count line == 2)
+    && (bytes_eq (field 1 line) (codes "DISCRETE") || bytes_eq (field 1 line) (codes "REPLACE"))
+
+-- whether two stand there, DISCRETE and then REPLACE
+abbrev pub has_both_modes : TextLine → Bool
+has_both_modes line =
+    (field_count line == 3)
+    && (bytes_eq (field 1 line) (codes "DISCRETE") && bytes_eq (field 2 line) (codes "REPLACE"))
+
 -- whether the words behind a section's name are DISCRETE and REPLACE, each of which may be left out
 abbrev pub has_mode : TextLine → Bool
-has_mode line =
-    (field_count line == 1)
-    || (((field_count line == 2) && (bytes_eq (field 1 line) (codes "DISCRETE") || bytes_eq (field 1 line) (codes "REPLACE")))
-    || ((field_count line == 3) && (bytes_eq (field 1 line) (codes "DISCRETE") && bytes_eq (field 2 line) (codes "REPLACE"))))
+has_mode line = (field_count line == 1) || (has_one_mode line || has_both_modes line)
 
 abbrev pub section_fault : Option Heading → TextLine → Option StochKind
 section_fault section line = first_true ((not (may_follow (heading_of (field 0 line)) section), Section) ∷ (not (has_mode line), Mode) ∷ [])

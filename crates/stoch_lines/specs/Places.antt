@@ -1,7 +1,8 @@
 -- Places of the core that may differ between scenarios, and their stages.
-use Rattle.std.specs.Prelude.{ℕ, ◌+◌, Bool, false, ◌&&◌, ◌||◌, ◌==◌, nat_le, nat_lt, if◌then◌else◌, List, position, count_by, Option, Some, None, codes}
+use Rattle.std.specs.Prelude.{ℕ, ◌+◌, Bool, false, ◌&&◌, ◌||◌, ◌==◌, nat_lt, if◌then◌else◌, List, position, Option, Some, None, codes}
 use Rattle.std.specs.Option.{option_map}
 use Rattle.std.specs.Str.{bytes_eq}
+use Rattle.smps_words.specs.Stages.{stage_in}
 use Rattle.smps_words.specs.declared.core_file.Core.{Core}
 use Rattle.smps_words.specs.declared.periods.Periods.{Periods}
 use Rattle.stoch_lines.specs.declared.places.StochPlace.{StochPlace}
@@ -44,10 +45,6 @@ place_of_first core None first row = if is_right_name core first then place_on_r
 -- the place that a first field and a row name, if they name one
 abbrev pub place_of : Core → List ℕ → List ℕ → Option StochPlace
 place_of core first row = place_of_first core (position (bytes_eq first) core.column_names) first row
-
--- the stage of what has this number, given the first of each period: periods begin in order, so it is the last that doesn't begin later
-abbrev pub stage_in : List ℕ → ℕ → ℕ
-stage_in firsts number = count_by (λ first. nat_le first number) firsts
 
 -- the stage of a place: its row's, or for a cost the column's
 abbrev pub stage_of : Periods → StochPlace → ℕ

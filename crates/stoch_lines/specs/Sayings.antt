@@ -37,7 +37,7 @@ begins_block line = bytes_eq (field 0 line) (codes "BL")
 abbrev pub begins_scenario : TextLine → Bool
 begins_scenario line = bytes_eq (field 0 line) (codes "SC")
 
--- whether a line is a header, behind which no realisation or scenario is open, or begins one of them
+-- whether a line is a header, which ends what was begun, or has the first field of one that begins a realisation or a scenario
 abbrev pub opens_or_ends : TextLine → Bool
 opens_or_ends line = line.header || (begins_block line || begins_scenario line)
 

@@ -1,5 +1,5 @@
 -- What the lines of a stoch file come to beside a core and its periods: all that they say, or the first fault.
-use Rattle.std.specs.Prelude.{◌≡◌, ℕ, List, [], Option, Result, Ok, Err}
+use Rattle.std.specs.Prelude.{◌≡◌, ℕ, ◌<◌, List, [], length, Option, Result, Ok, Err}
 use Rattle.line_core.specs.Lines.{lines_of}
 use Rattle.line_core.specs.declared.line_list.Line.{Line}
 use Rattle.line_core.specs.declared.line_list.LineFault.{LineFault}
@@ -45,15 +45,19 @@ read_meaning core periods bytes (Err lines.Memory) = Err (0, NoEnd)
 abbrev pub said_meaning : Core → Periods → List ℕ → Result Before (ℕ × StochKind)
 said_meaning core periods bytes = read_meaning core periods bytes (lines_of bytes)
 
--- a fault is that of the file; want of memory may always be answered
-abbrev pub Fails : StochFault → Result Before (ℕ × StochKind) → Type 0
-Fails (At line kind) meaning = meaning ≡ Err (line, kind)
-Fails Memory meaning = Unit {0}
+-- a fault is that of the file, or memory is refused where it is asked for
+abbrev pub Fails : Type 0 → StochFault → Result Before (ℕ × StochKind) → Type 0
+Fails asked (At line kind) meaning = meaning ≡ Err (line, kind)
+Fails asked Memory meaning = asked
 
 -- the answer is the meaning: a state shows all that was said
-abbrev pub Gives : Result State StochFault → Result Before (ℕ × StochKind) → Type 0
-Gives (Ok state) meaning = meaning ≡ Ok (before_in state)
-Gives (Err fault) meaning = Fails fault meaning
+abbrev pub Gives : Type 0 → Result State StochFault → Result Before (ℕ × StochKind) → Type 0
+Gives asked (Ok state) meaning = meaning ≡ Ok (before_in state)
+Gives asked (Err fault) meaning = Fails asked fault meaning
+
+-- lines ask for memory where there are some
+abbrev pub AreSome : List Line → Type 0
+AreSome lines = 0 < length lines
 
 -- what lines come to, line by line from a state on
 abbrev pub stepped_from : Core → Periods → Before → List TextLine → Outcome TextLine StochKind Before
@@ -65,3 +69,8 @@ stepped core periods lines = stepped_from core periods nothing_said lines
 -- the answer for lines by what they come to
 abbrev pub answer_for : List TextLine → Outcome TextLine StochKind Before → Result Before (ℕ × StochKind)
 answer_for lines come_to = answer_of said_whole (last_number lines) NoEnd come_to
+
+-- what the lines of a file mean, line by line
+abbrev pub stepped_meaning : Core → Periods → List ℕ → List Line → Result Before (ℕ × StochKind)
+stepped_meaning core periods bytes found =
+    let lines = text_lines bytes found in answer_for lines (stepped core periods lines)

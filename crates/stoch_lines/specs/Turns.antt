@@ -1,9 +1,12 @@
 -- What a step of the reader answers to a line, and the state as what the lines before it say.
-use Rattle.std.specs.Prelude.{◌≡◌, Bool, List, ◌∷◌, ◌<◌, false, length, map, Option, Some, None, Result, Ok, Err}
+use Rattle.std.specs.Prelude.{◌≡◌, ℕ, Bool, List, ◌∷◌, ◌<◌, false, length, map, Option, Some, None, Result, Ok, Err}
 use Rattle.std.specs.Option.{option_to_list}
+use Rattle.dec_core.specs.declared.decimal.Decimal.{Decimal}
+use Rattle.smps_words.specs.NumberFields.{number_in}
 use Rattle.smps_words.specs.declared.core_file.Core.{Core}
+use Rattle.smps_words.specs.declared.file_line.FileLine.{FileLine}
 use Rattle.smps_words.specs.declared.periods.Periods.{Periods}
-use Rattle.smps_words.specs.TextLines.{TextLine, field}
+use Rattle.smps_words.specs.TextLines.{TextLine, field, text_of}
 use Rattle.stoch_lines.specs.declared.kinds.StochKind.{StochKind}
 use Rattle.stoch_lines.specs.declared.kinds.StochFault.{StochFault}
 use Rattle.stoch_lines.specs.declared.kinds.StochFault.TheVariants as faults
@@ -12,8 +15,9 @@ use Rattle.stoch_lines.specs.declared.places.StochEntry.{StochEntry}
 use Rattle.stoch_lines.specs.declared.places.StochPlace.{StochPlace}
 use Rattle.stoch_lines.specs.declared.state.State.{State}
 use Rattle.stoch_lines.specs.declared.state.ScenarioHead.{ScenarioHead}
-use Rattle.stoch_lines.specs.Sayings.{scenario_head}
-use Rattle.stoch_lines.specs.Before.{Before, next}
+use Rattle.stoch_lines.specs.Places.{period_of}
+use Rattle.stoch_lines.specs.Sayings.{entry_at, last_field, named_period, scenario_head}
+use Rattle.stoch_lines.specs.Before.{added, next, Before}
 use Rattle.stoch_lines.specs.Faults.{line_fault, is_end, is_scenario, max_scenarios}
 
 -- a state shows what the lines before say
@@ -41,6 +45,12 @@ abbrev pub Turns : {X : Type 0} → Option StochKind → TextLine → Result X S
 Turns fault line (Ok x) after = (fault ≡ None) × after
 Turns fault line (Err e) after = Refuses e fault line
 
+-- a line of data tells its fault by the lines before, and where there is none the state shows what it adds
+abbrev pub Adds : Core → Periods → (Before → TextLine → Option StochKind) → State → FileLine → Result (Unit {0}) StochFault → State → Type 0
+Adds core periods fault old line result new =
+    let text = text_of line in
+    Turns (fault (before_in old) text) text result (before_in new ≡ added core periods (before_in old) text)
+
 -- a whole step tells whether the line ends the file besides
 abbrev pub Steps : Core → Periods → Before → TextLine → Result Bool StochFault → Before → Type 0
 Steps core periods b line (Ok ended) after =
@@ -53,6 +63,23 @@ IsNewScenario periods b line scenario =
     (scenario ≡ scenario_head periods b.names line)
     × (length b.names < max_scenarios)
     × (is_scenario b (field 1 line) ≡ false)
+
+-- the period and the probability of a line that begins a realisation of a block
+abbrev pub AreBlockFields : Periods → TextLine → ℕ → Decimal → Type 0
+AreBlockFields periods line period probability =
+    (Some period ≡ period_of periods (field 2 line)) × (probability ≡ number_in (field 3 line))
+
+-- the entry, the period and the probability of a line of INDEP
+abbrev pub AreIndepFields : Core → Periods → TextLine → StochEntry → Option ℕ → Decimal → Type 0
+AreIndepFields core periods line entry named probability =
+    (entry ≡ entry_at core 1 line)
+    × (named ≡ named_period periods line)
+    × (probability ≡ number_in (last_field line))
+
+-- the probability and the period of a line that begins a scenario
+abbrev pub AreScenarioNumbers : Periods → TextLine → Decimal → ℕ → Type 0
+AreScenarioNumbers periods line probability period =
+    (probability ≡ number_in (field 3 line)) × (Some period ≡ period_of periods (field 4 line))
 
 -- the entries of one or two pairs, and their places
 abbrev pub pair_entries : Pairs → List StochEntry

@@ -1,15 +1,13 @@
 ghost use Rattle.std.specs.Prelude.{◌≡◌, Some, true, false, OnOk, map, slice_index_or};
 ghost use Rattle.std.specs.List.{list_any};
 ghost use Rattle.smps_words.specs.declared.core_file.Core.{Core};
-ghost use Rattle.smps_words.specs.NumberFields.{number_in};
 ghost use Rattle.smps_words.specs.Tables.{Passes};
-ghost use Rattle.smps_words.specs.TextLines.{field, text_of};
+ghost use Rattle.smps_words.specs.TextLines.{text_of};
 ghost use Rattle.stoch_lines.specs.declared.heading.Heading.TheVariants.{Blocks};
-ghost use Rattle.stoch_lines.specs.Before.{added, with_block, with_entries, with_saying};
+ghost use Rattle.stoch_lines.specs.Before.{with_block, with_entries, with_saying};
 ghost use Rattle.stoch_lines.specs.Faults.{block_form, block_rules, block_fault, block_data_fault, is_taken, is_twice_in_block};
-ghost use Rattle.stoch_lines.specs.Places.{period_of};
 ghost use Rattle.stoch_lines.specs.Sayings.{begins_block, block_number, last_element, owned_by, with_name};
-ghost use Rattle.stoch_lines.specs.Turns.{before_in, pair_entries, pair_places, Turns};
+ghost use Rattle.stoch_lines.specs.Turns.{before_in, pair_entries, pair_places, Adds, AreBlockFields};
 
 use crate::entries::Owned;
 use crate::fields::{fault_at, known_period, probability_of};
@@ -33,7 +31,7 @@ struct BlockFields {
 }
 
 fn fields_of(periods: &Periods, line: &FileLine<'_>) -> Result<BlockFields, StochKind>
-    ensures { Passes (block_form periods.now (text_of line.now)) result (λ f. (Some f.period ≡ period_of periods.now (field 2 (text_of line.now))) × (f.probability ≡ number_in (field 3 (text_of line.now)))) }
+    ensures { Passes (block_form periods.now (text_of line.now)) result (λ f. AreBlockFields periods.now (text_of line.now) f.period f.probability) }
 {
     if line.count() != 4 {
         return Err(StochKind::Fields);
@@ -96,7 +94,7 @@ impl State {
         requires section { self.old.section ≡ Some Blocks }
         requires data { line.now.line.now.header ≡ false }
         requires word { begins_block (text_of line.now) ≡ true }
-        ensures { (core : Core) → Turns (block_fault periods.now (before_in self.old) (text_of line.now)) (text_of line.now) result (before_in self.new ≡ added core periods.now (before_in self.old) (text_of line.now)) }
+        ensures { (core : Core) → Adds core periods.now (block_fault periods.now) self.old line.now result self.new }
     {
         let fields = match fields_of(periods, line) {
             Ok(fields) => fields,
@@ -184,7 +182,7 @@ impl State {
         requires section { self.old.section ≡ Some Blocks }
         requires data { line.now.line.now.header ≡ false }
         requires word { begins_block (text_of line.now) ≡ false }
-        ensures { Turns (block_data_fault core.now periods.now (before_in self.old) (text_of line.now)) (text_of line.now) result (before_in self.new ≡ added core.now periods.now (before_in self.old) (text_of line.now)) }
+        ensures { Adds core.now periods.now (block_data_fault core.now periods.now) self.old line.now result self.new }
     {
         let pairs = match pairs_of(core, line) {
             Ok(pairs) => pairs,

@@ -1,10 +1,9 @@
-ghost use Rattle.std.specs.Prelude.{◌≡◌, ◌==◌, ◌&&◌, ◌||◌, true, codes, length};
-ghost use Rattle.std.specs.Str.{bytes_eq};
+ghost use Rattle.std.specs.Prelude.{◌≡◌, true};
 ghost use Rattle.smps_words.specs.Tables.{Passes};
-ghost use Rattle.smps_words.specs.TextLines.{field, field_count, text_of};
+ghost use Rattle.smps_words.specs.TextLines.{text_of};
 ghost use Rattle.smps_words.specs.declared.core_file.Core.{Core};
 ghost use Rattle.smps_words.specs.declared.periods.Periods.{Periods};
-ghost use Rattle.stoch_lines.specs.Faults.{has_mode, header_fault, may_follow, section_fault};
+ghost use Rattle.stoch_lines.specs.Faults.{has_both_modes, has_mode, has_one_mode, header_fault, may_follow, section_fault};
 ghost use Rattle.stoch_lines.specs.Sayings.{heading_of};
 ghost use Rattle.stoch_lines.specs.Turns.{before_in, Steps};
 
@@ -41,13 +40,13 @@ fn may_follow(heading: Option<Heading>, section: Option<Heading>) -> bool
 }
 
 fn has_one_mode(line: &FileLine<'_>) -> bool
-    ensures { result ≡ ((field_count (text_of line.now) == 2) && (bytes_eq (field 1 (text_of line.now)) (codes "DISCRETE") || bytes_eq (field 1 (text_of line.now)) (codes "REPLACE"))) }
+    ensures { result ≡ has_one_mode (text_of line.now) }
 {
     line.count() == 2 && (same(line.field(1), b"DISCRETE") || same(line.field(1), b"REPLACE"))
 }
 
 fn has_both_modes(line: &FileLine<'_>) -> bool
-    ensures { result ≡ ((field_count (text_of line.now) == 3) && (bytes_eq (field 1 (text_of line.now)) (codes "DISCRETE") && bytes_eq (field 2 (text_of line.now)) (codes "REPLACE"))) }
+    ensures { result ≡ has_both_modes (text_of line.now) }
 {
     line.count() == 3 && (same(line.field(1), b"DISCRETE") && same(line.field(2), b"REPLACE"))
 }

@@ -1,12 +1,11 @@
 ghost use Rattle.std.specs.Prelude.{◌≡◌, Some, false, OnOk};
 ghost use Rattle.smps_words.specs.Tables.{Passes};
 ghost use Rattle.smps_words.specs.TextLines.{text_of};
-ghost use Rattle.smps_words.specs.NumberFields.{number_in};
 ghost use Rattle.stoch_lines.specs.declared.heading.Heading.TheVariants.{Indep};
-ghost use Rattle.stoch_lines.specs.Before.{added, with_single};
+ghost use Rattle.stoch_lines.specs.Before.{with_single};
 ghost use Rattle.stoch_lines.specs.Faults.{named_fault, indep_form, indep_rules, indep_fault};
-ghost use Rattle.stoch_lines.specs.Sayings.{entry_at, last_field, named_period, saying_at};
-ghost use Rattle.stoch_lines.specs.Turns.{before_in, Turns};
+ghost use Rattle.stoch_lines.specs.Sayings.{named_period, saying_at};
+ghost use Rattle.stoch_lines.specs.Turns.{before_in, Adds, AreIndepFields};
 
 use crate::entries::Owned;
 use crate::fields::{fault_at, known_period, last_field, probability_of};
@@ -38,7 +37,7 @@ fn named_of(periods: &Periods, line: &FileLine<'_>) -> Result<Option<u8>, StochK
 }
 
 fn fields_of(core: &Core, periods: &Periods, line: &FileLine<'_>) -> Result<IndepFields, StochKind>
-    ensures { Passes (indep_form core.now periods.now (text_of line.now)) result (λ f. (f.entry ≡ entry_at core.now 1 (text_of line.now)) × (f.named ≡ named_period periods.now (text_of line.now)) × (f.probability ≡ number_in (last_field (text_of line.now)))) }
+    ensures { Passes (indep_form core.now periods.now (text_of line.now)) result (λ f. AreIndepFields core.now periods.now (text_of line.now) f.entry f.named f.probability) }
 {
     let count = line.count();
     if count != 4 && count != 5 {
@@ -117,7 +116,7 @@ impl State {
     ) -> Result<(), StochFault>
         requires section { self.old.section ≡ Some Indep }
         requires data { line.now.line.now.header ≡ false }
-        ensures { Turns (indep_fault core.now periods.now (before_in self.old) (text_of line.now)) (text_of line.now) result (before_in self.new ≡ added core.now periods.now (before_in self.old) (text_of line.now)) }
+        ensures { Adds core.now periods.now (indep_fault core.now periods.now) self.old line.now result self.new }
     {
         let fields = match fields_of(core, periods, line) {
             Ok(fields) => fields,

@@ -1,7 +1,6 @@
-ghost use Rattle.std.specs.Prelude.{◌≡◌, ◌≤◌, length};
-ghost use Rattle.smps_words.specs.PeriodFacts.{max_periods};
+ghost use Rattle.std.specs.Prelude.{◌≡◌};
 ghost use Rattle.smps_words.specs.TextLines.{text_of};
-ghost use Rattle.stoch_lines.specs.Places.{place_in_column, place_on_right, is_right_name, place_of, same_place, stage_in, stage_of, anticipates};
+ghost use Rattle.stoch_lines.specs.Places.{place_in_column, place_on_right, is_right_name, place_of, same_place, stage_of, anticipates};
 ghost use Rattle.stoch_lines.specs.Sayings.{place_at};
 
 use crate::fields::same;
@@ -65,21 +64,14 @@ pub fn same_place(place: StochPlace, other: StochPlace) -> bool
     }
 }
 
-fn stage_in(firsts: &[u32], number: u32) -> u8
-    requires { length firsts.now ≤ max_periods }
-    ensures { result ≡ stage_in firsts.now number }
-{
-    firsts.iter().filter(|first| **first <= number).count() as u8
-}
-
 /// The stage of a place: its row's, or for a cost the column's.
 pub fn stage_of(periods: &Periods, place: StochPlace) -> u8
     ensures { result ≡ stage_of periods.now place }
 {
     match place {
-        StochPlace::Cost(column) => stage_in(periods.columns.as_slice(), column),
-        StochPlace::Cell(row, _) => stage_in(periods.rows.as_slice(), row),
-        StochPlace::Right(row) => stage_in(periods.rows.as_slice(), row),
+        StochPlace::Cost(column) => periods.stage_of_column(column),
+        StochPlace::Cell(row, _) => periods.stage_of_row(row),
+        StochPlace::Right(row) => periods.stage_of_row(row),
     }
 }
 
@@ -89,7 +81,7 @@ pub fn anticipates(periods: &Periods, place: StochPlace) -> bool
 {
     match place {
         StochPlace::Cell(row, column) => {
-            stage_in(periods.rows.as_slice(), row) < stage_in(periods.columns.as_slice(), column)
+            periods.stage_of_row(row) < periods.stage_of_column(column)
         }
         _ => false,
     }

@@ -1,4 +1,5 @@
 ghost use Rattle.std.specs.Prelude.{◌≡◌, List};
+ghost use Rattle.smps_words.specs.Memory.{MayRefuse};
 ghost use Rattle.smps_words.specs.Places.{Says};
 ghost use Rattle.smps_words.specs.TextLines.{TextLine, last_number, text_lines};
 ghost use Rattle.smps_words.specs.declared.core_file.Core.{Core};
@@ -6,7 +7,7 @@ ghost use Rattle.smps_words.specs.declared.periods.Periods.{Periods};
 ghost use Rattle.stoch_lines.specs.declared.kinds.StochFault.TheVariants.{At};
 ghost use Rattle.stoch_lines.specs.declared.kinds.StochKind.TheVariants.{NoEnd};
 ghost use Rattle.stoch_lines.specs.Faults.{is_end};
-ghost use Rattle.stoch_lines.specs.StochOutcome.{answer_for, fault_after, said_meaning, stepped, stoch_outcome, Gives};
+ghost use Rattle.stoch_lines.specs.StochOutcome.{fault_after, said_meaning, stepped_meaning, stoch_outcome, AreSome, Gives};
 
 use crate::kinds::{StochFault, StochKind};
 use crate::state::State;
@@ -42,7 +43,7 @@ fn read_lines(
     core: &Core,
     periods: &Periods,
 ) -> Result<State, StochFault>
-    ensures { let texts = text_lines bytes.now lines.now in Gives result (answer_for texts (stepped core.now periods.now texts)) }
+    ensures { Gives (AreSome lines.now) result (stepped_meaning core.now periods.now bytes.now lines.now) }
 {
     let mut state = State::new(alloc);
     for line in lines {
@@ -58,14 +59,15 @@ fn read_lines(
 ///
 /// `At` is the first fault of the file. Faults of a line's bytes or length come
 /// first wherever they stand, and then each line is judged by the lines before
-/// it.
+/// it. `Memory` comes only where a line is read before the first fault of a line's
+/// bytes or length.
 pub fn read_state(
     alloc: Global,
     bytes: &[u8],
     core: &Core,
     periods: &Periods,
 ) -> Result<State, StochFault>
-    ensures { Gives result (said_meaning core.now periods.now bytes.now) }
+    ensures { Gives (MayRefuse bytes.now) result (said_meaning core.now periods.now bytes.now) }
 {
     let found = match lines(alloc, bytes) {
         Ok(found) => found,

@@ -1,14 +1,12 @@
 ghost use Rattle.std.specs.Prelude.{◌≡◌, ◌<◌, ◌^◌, ◌||◌, Some, true, false, length, OnOk};
-ghost use Rattle.smps_words.specs.NumberFields.{number_in};
-ghost use Rattle.stoch_lines.specs.Places.{period_of};
 ghost use Rattle.smps_words.specs.Tables.{Passes};
-ghost use Rattle.smps_words.specs.TextLines.{field, text_of};
+ghost use Rattle.smps_words.specs.TextLines.{text_of};
 ghost use Rattle.smps_words.specs.declared.core_file.Core.{Core};
 ghost use Rattle.stoch_lines.specs.declared.heading.Heading.TheVariants.{Scenarios};
-ghost use Rattle.stoch_lines.specs.Before.{added, with_scenario};
+ghost use Rattle.stoch_lines.specs.Before.{with_scenario};
 ghost use Rattle.stoch_lines.specs.Faults.{branching_stage, is_root, is_scenario, max_scenarios, scenario_form, scenario_numbers, scenario_data_fault, scenario_fault};
 ghost use Rattle.stoch_lines.specs.Sayings.{begins_scenario};
-ghost use Rattle.stoch_lines.specs.Turns.{before_in, IsNewScenario, Turns};
+ghost use Rattle.stoch_lines.specs.Turns.{before_in, Adds, AreScenarioNumbers, IsNewScenario};
 
 use crate::fields::{fault_at, is_root, known_period, probability_of};
 use crate::kinds::{StochFault, StochKind};
@@ -29,7 +27,7 @@ struct Numbers {
 }
 
 fn numbers_of(periods: &Periods, line: &FileLine<'_>) -> Result<Numbers, StochKind>
-    ensures { Passes (scenario_numbers periods.now (text_of line.now)) result (λ n. (n.probability ≡ number_in (field 3 (text_of line.now))) × (Some n.period ≡ period_of periods.now (field 4 (text_of line.now)))) }
+    ensures { Passes (scenario_numbers periods.now (text_of line.now)) result (λ n. AreScenarioNumbers periods.now (text_of line.now) n.probability n.period) }
 {
     let probability = probability_of(line.field(3))?;
     let period = known_period(periods, line.field(4))?;
@@ -109,7 +107,7 @@ impl State {
         requires section { self.old.section ≡ Some Scenarios }
         requires data { line.now.line.now.header ≡ false }
         requires word { begins_scenario (text_of line.now) ≡ true }
-        ensures { (core : Core) → Turns (scenario_fault periods.now (before_in self.old) (text_of line.now)) (text_of line.now) result (before_in self.new ≡ added core periods.now (before_in self.old) (text_of line.now)) }
+        ensures { (core : Core) → Adds core periods.now (scenario_fault periods.now) self.old line.now result self.new }
     {
         let scenario = match self.scenario_of(periods, line) {
             Ok(scenario) => scenario,
@@ -140,7 +138,7 @@ impl State {
         requires section { self.old.section ≡ Some Scenarios }
         requires data { line.now.line.now.header ≡ false }
         requires word { begins_scenario (text_of line.now) ≡ false }
-        ensures { Turns (scenario_data_fault core.now periods.now (before_in self.old) (text_of line.now)) (text_of line.now) result (before_in self.new ≡ added core.now periods.now (before_in self.old) (text_of line.now)) }
+        ensures { Adds core.now periods.now (scenario_data_fault core.now periods.now) self.old line.now result self.new }
     {
         let pairs = match pairs_of(core, line) {
             Ok(pairs) => pairs,

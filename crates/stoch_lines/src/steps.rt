@@ -1,9 +1,8 @@
 ghost use Rattle.std.specs.Prelude.{◌≡◌, Some, false};
 ghost use Rattle.smps_words.specs.TextLines.{text_of};
 ghost use Rattle.stoch_lines.specs.declared.heading.Heading.TheVariants.{Blocks, Scenarios};
-ghost use Rattle.stoch_lines.specs.Before.{added};
 ghost use Rattle.stoch_lines.specs.Faults.{blocks_fault, data_fault, scenarios_fault};
-ghost use Rattle.stoch_lines.specs.Turns.{before_in, Steps, Turns};
+ghost use Rattle.stoch_lines.specs.Turns.{before_in, Adds, Steps};
 
 use crate::fields::{begins_block, begins_scenario, fault_at};
 use crate::heading::Heading;
@@ -20,7 +19,7 @@ impl State {
     ) -> Result<(), StochFault>
         requires section { self.old.section ≡ Some Blocks }
         requires data { line.now.line.now.header ≡ false }
-        ensures { Turns (blocks_fault core.now periods.now (before_in self.old) (text_of line.now)) (text_of line.now) result (before_in self.new ≡ added core.now periods.now (before_in self.old) (text_of line.now)) }
+        ensures { Adds core.now periods.now (blocks_fault core.now periods.now) self.old line.now result self.new }
     {
         if begins_block(line) {
             return self.block_line(periods, line);
@@ -39,7 +38,7 @@ impl State {
     ) -> Result<(), StochFault>
         requires section { self.old.section ≡ Some Scenarios }
         requires data { line.now.line.now.header ≡ false }
-        ensures { Turns (scenarios_fault core.now periods.now (before_in self.old) (text_of line.now)) (text_of line.now) result (before_in self.new ≡ added core.now periods.now (before_in self.old) (text_of line.now)) }
+        ensures { Adds core.now periods.now (scenarios_fault core.now periods.now) self.old line.now result self.new }
     {
         if begins_scenario(line) {
             return self.scenario_line(periods, line);
@@ -57,7 +56,7 @@ impl State {
         line: &FileLine<'_>,
     ) -> Result<(), StochFault>
         requires data { line.now.line.now.header ≡ false }
-        ensures { Turns (data_fault core.now periods.now self.old.section (before_in self.old) (text_of line.now)) (text_of line.now) result (before_in self.new ≡ added core.now periods.now (before_in self.old) (text_of line.now)) }
+        ensures { Adds core.now periods.now (data_fault core.now periods.now self.old.section) self.old line.now result self.new }
     {
         match self.section {
             None => Err(fault_at(line, StochKind::Section)),

@@ -1,7 +1,8 @@
 -- What a list of nodes says: which scenarios stand at a stage, which share a node, and which node has a scenario.
 
-use Rattle.std.specs.Prelude.{◌≡◌, ℕ, ◌<◌, ◌≤◌, ◌==◌, ◌&&◌, Bool, List, [], length, Option, slice_index_or, position, Contains}
+use Rattle.std.specs.Prelude.{◌≡◌, ◌↔◌, ℕ, ◌+◌, ◌<◌, ◌≤◌, ◌==◌, ◌&&◌, Bool, List, [], length, Option, slice_index_or, position, Contains}
 use Rattle.std.specs.List.{All, AllPairs, Any, count_by, filter, flat_map, list_any, position_or_len}
+use Rattle.tree_core.specs.Marks.{mark_of}
 use Rattle.tree_core.specs.declared.tree.Node.{Node}
 
 -- whether a scenario stands in the node, and the node at the stage
@@ -59,3 +60,19 @@ first_of n = slice_index_or n.scenarios 0 0
 -- a node of an earlier stage, or of the same stage and with an earlier first scenario
 abbrev pub Precedes : Node → Node → Type 0
 Precedes n m = (n.stage ≤ m.stage) × (n.stage ≡ m.stage → first_of n < first_of m)
+
+-- at each stage each scenario stands once
+abbrev pub StandOnce : ℕ → ℕ → List Node → Type 0
+StandOnce stages count nodes = (t s : ℕ) → 1 ≤ t → t ≤ stages → s < count → StandsOnce nodes t s
+
+-- scenarios share a node of a stage exactly where their marks at the stage are equal
+abbrev pub ShareByMarks : ℕ → List (List ℕ) → List Node → Type 0
+ShareByMarks stages owners nodes =
+    (t s u : ℕ) → 1 ≤ t → t ≤ stages → s < length owners → u < length owners →
+    Share nodes s u t ↔ (mark_of owners t s ≡ mark_of owners t u)
+
+-- scenarios in one node of a stage are in one node of the stage before
+abbrev pub AreNestedNodes : ℕ → ℕ → List Node → Type 0
+AreNestedNodes stages count nodes =
+    (t s u : ℕ) → 1 ≤ t → t < stages → s < count → u < count →
+    SameNode nodes (t + 1) s u → SameNode nodes t s u

@@ -1,6 +1,7 @@
-pub mod WindowPlaces
-pub mod Listed
 pub mod Keeping
-pub mod Writers
+pub mod Listed
 pub mod Readers
+pub mod Stamps
 pub mod Stopping
+pub mod WindowPlaces
+pub mod Writers

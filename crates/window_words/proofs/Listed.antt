@@ -1,8 +1,8 @@
 -- Lists that grow by one, and the lists of accepted entries.
-use Rattle.std.proofs.Common.{◌≡◌, ℕ, zero, suc, ◌+◌, ◌<◌, Bool, true, false, List, [], ◌∷◌, ◌++◌, length, get_or, set, refl, arith, length-append, nat_lt, nat_eq, if◌then◌else◌}
+use Rattle.std.proofs.Common.{◌≡◌, ℕ, zero, suc, ◌+◌, ◌-◌, ◌*◌, ◌<◌, ◌≤◌, Bool, true, false, List, [], ◌∷◌, ◌++◌, length, get_or, set, refl, subst, arith, length-append, nat_lt, nat_eq, if◌then◌else◌}
 use Rattle.std.specs.Prelude.{All}
-use Rattle.std.specs.List.{list_any}
-use Rattle.std.proofs.lemmas.List.Elements.{All-append, All-cons, All-nil}
+use Rattle.std.specs.List.{list_any, Contains}
+use Rattle.std.proofs.lemmas.List.Elements.{All-append, All-cons, All-get_or, All-nil, Contains-get_or}
 use Rattle.window_words.specs.Views.{last_of, accept}
 
 pub push_at : (ks : List ℕ) (k n : ℕ) → n ≡ length ks → get_or (ks ++ k ∷ []) n 0 ≡ k
@@ -37,3 +37,14 @@ chosen P k ks false false all p = All-append P ks (k ∷ []) all (All-cons P k [
 -- what holds of all accepted entries and of one more holds after it is accepted
 pub each_accept : (P : ℕ → ℕ → Type 0) (leaders w k : ℕ) (acc : List (List ℕ)) → ((j : ℕ) → All (P j) (get_or acc j [])) → P w k → (j : ℕ) → All (P j) (get_or (accept leaders w k acc) j [])
 each_accept P leaders w k acc each p = each_set P acc w _ each (chosen (P w) k (get_or acc w []) (nat_lt w leaders) (list_any (λ j. nat_eq j k) (get_or acc w [])) (each w) p)
+
+-- the last of a list whose items are below n, or 0
+pub last_below : (ks : List ℕ) (n : ℕ) → All (λ k. 2 * k ≤ n) ks → 2 * last_of ks ≤ n
+last_below [] n all = omega arith
+last_below (x ∷ xs) n all = let here : length (x ∷ xs) - 1 < length (x ∷ xs) = omega arith in All-get_or (λ k. 2 * k ≤ n) (x ∷ xs) (length (x ∷ xs) - 1) 0 here all
+
+-- a list has its last item
+pub has_last : (ks : List ℕ) (k : ℕ) → 1 ≤ k → last_of ks ≡ k → Contains ks k
+has_last [] k pos e = absurd (omega arith)
+has_last (x ∷ xs) k pos e = let here : length (x ∷ xs) - 1 < length (x ∷ xs) = omega arith in
+    subst (λ (z : ℕ). Contains (x ∷ xs) z) e (Contains-get_or (x ∷ xs) (length (x ∷ xs) - 1) 0 here)

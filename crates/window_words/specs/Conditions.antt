@@ -1,7 +1,9 @@
 -- When a call of a board may come, and what its answer tells.
 use Rattle.std.specs.Prelude.{◌≡◌, ℕ, ◌*◌, ◌<◌, ◌≤◌, List, [], length, slice_index, slice_index_or, All, Some, None}
+use Rattle.std.specs.List.{Contains}
 use Rattle.window_words.specs.Views.{last_of, OwnsOne, stamp_of}
 use Rattle.window_words.specs.declared.views.View.{View}
+use Rattle.window_words.specs.declared.views.Owned.{Owned}
 use Rattle.window_words.specs.declared.views.Pending.{Pending}
 use Rattle.window_words.specs.declared.views.Reading.{Reading}
 
@@ -51,3 +53,16 @@ OwnStamp v w n = All (λ a. a.window ≡ w → n ≡ stamp_of v.pending a.closed
 abbrev pub IsEntryWhole : {M : Type 0} → (M → ℕ → ℕ → List ℕ) → (M → ℕ) → M → View → ℕ → ℕ → Type 0
 IsEntryWhole entry last of v w n =
     (r : Reading) (k : ℕ) → v.reading ≡ Some r → 1 ≤ k → r.first ≡ 2 * k → n ≡ r.first → (k ≤ last of) × (r.words ≡ entry of w k)
+
+-- the owner of a window has closed each entry that a seat with this view accepted of it
+abbrev pub HasClosed : View → Owned → Type 0
+HasClosed v a = All (λ k. (1 ≤ k) × Contains a.closed k) (slice_index_or v.accepted a.window [])
+
+-- of a window that the seat owns itself, it accepted only entries that it closed there
+abbrev pub AcceptedOwn : View → ℕ → Type 0
+AcceptedOwn v w = All (λ a. a.window ≡ w → HasClosed v a) v.owned
+
+-- where a reading ends whole at entry k of a window that isn't a leader's, a seat that owns a leader's window, with no entry open, has closed entry k or a later one there
+abbrev pub IsBehindOwn : ℕ → View → ℕ → ℕ → Type 0
+IsBehindOwn leaders v w n =
+    (r : Reading) (k : ℕ) → v.reading ≡ Some r → r.first ≡ 2 * k → n ≡ r.first → leaders ≤ w → v.pending ≡ None → All (λ a. a.window < leaders → k ≤ last_of a.closed) v.owned

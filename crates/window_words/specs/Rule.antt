@@ -1,9 +1,10 @@
 -- The fact about all words and all views that every step on a word keeps.
-use Rattle.std.specs.Prelude.{◌≡◌, ℕ, zero, suc, ◌+◌, ◌*◌, ◌<◌, ◌≤◌, true, List, [], length, slice_index, slice_index_or, All, Option, Some, None}
+use Rattle.std.specs.Prelude.{◌≡◌, ℕ, zero, suc, ◌+◌, ◌*◌, ◌/◌, ◌<◌, ◌≤◌, true, List, [], length, slice_index, slice_index_or, All, Option, Some, None}
 use mathlib.Core.Option.{some}
 use lib.ListN.{get_elem?}
 use Rattle.atomic_table.specs.Table.{State}
 use Rattle.window_words.specs.Views.{stamp_of}
+use Rattle.window_words.specs.Conditions.{HasClosed}
 use Rattle.window_words.specs.declared.views.View.{View}
 use Rattle.window_words.specs.declared.views.Known.{Known}
 use Rattle.window_words.specs.declared.views.Owned.{Owned}
@@ -49,8 +50,12 @@ pub record Knows (entry : ℕ → ℕ → List ℕ) (wide : ℕ → ℕ) (count 
   pub reads : HasRead entry wide count (stamp wide words) v.reading
   pub accepted : (w : ℕ) → All (λ k. 2 * k ≤ stamp wide words w) (slice_index_or v.accepted w [])
 
--- The rule. No two seats own one window and no two are the hub's; windows that aren't handed out have stamp 0; an even stamp above 0 says that its entry stands whole.
-pub record Windows {M : Type 0} (entry : ℕ → ℕ → List ℕ) (wide : ℕ → ℕ) (count most : ℕ) (of : M) (s : State ℕ (Known M)) : Type 0 where
+-- no other window is ahead of a leader's: an entry is opened there only after every leader closed one that isn't older
+abbrev pub AreFollowing : ℕ → ℕ → (ℕ → ℕ) → Type 0
+AreFollowing leaders count now = (w u : ℕ) → leaders ≤ w → w < count → u < leaders → (now w + 1) / 2 ≤ now u / 2
+
+-- The rule. No two seats own one window and no two are the hub's; windows that aren't handed out have stamp 0; an even stamp above 0 says that its entry stands whole; what a seat accepted of a window, the window's owner has closed.
+pub record Windows {M : Type 0} (entry : ℕ → ℕ → List ℕ) (wide : ℕ → ℕ) (count lead most : ℕ) (of : M) (s : State ℕ (Known M)) : Type 0 where
   pub hub : ℕ
   pub dealt : ℕ
   pub owner : ℕ → ℕ
@@ -61,3 +66,5 @@ pub record Windows {M : Type 0} (entry : ℕ → ℕ → List ℕ) (wide : ℕ �
   pub whole : (w k : ℕ) → w < count → 1 ≤ k → stamp wide s.words w ≡ 2 * k → (i : ℕ) → i < wide w → word wide s.words w i ≡ slice_index (entry w k) i
   pub same : (j : ℕ) (v : Known M) (m : M) → get_elem? s.views j ≡ some v → v.of ≡ Some m → m ≡ of
   pub each : (j : ℕ) (v : Known M) → get_elem? s.views j ≡ some v → Knows entry wide count s.words hub dealt owner j v.view
+  pub following : AreFollowing lead count (stamp wide s.words)
+  pub listed : (i j : ℕ) (v u : Known M) → get_elem? s.views i ≡ some v → get_elem? s.views j ≡ some u → All (HasClosed v.view) u.view.owned

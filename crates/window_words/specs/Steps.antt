@@ -2,7 +2,7 @@
 use Rattle.std.specs.Prelude.{◌≡◌, ℕ, ◌+◌, ◌*◌, ◌/◌, ◌≤◌, true, List, length, Some}
 use Rattle.atomic_table.specs.Table.{Me, Step}
 use Rattle.window_words.specs.Views.{after}
-use Rattle.window_words.specs.Conditions.{AcceptedBelow, OwnStamp}
+use Rattle.window_words.specs.Conditions.{AcceptedBelow, AcceptedOwn, IsBehindOwn, OwnStamp}
 use Rattle.window_words.specs.Rule.{start}
 use Rattle.window_words.specs.declared.views.View.{View}
 use Rattle.window_words.specs.declared.views.Known.{Known}
@@ -32,7 +32,7 @@ module _ {M : Type 0} where
   -- a load of a window's stamp tells which window it is
   abbrev pub begins : (M → ℕ → ℕ) → Step ℕ → Me ℕ (Known M) → ℕ → Me ℕ (Known M) → Type 0
   begins wide st m n m' =
-      (of : M) (w : ℕ) → m.0.of ≡ Some of → st.word ≡ start (wide of) w → Gains 0 (Begin w) n m m' × AcceptedBelow m.0.view w n × OwnStamp m.0.view w n
+      (of : M) (w : ℕ) → m.0.of ≡ Some of → st.word ≡ start (wide of) w → Gains 0 (Begin w) n m m' × AcceptedBelow m.0.view w n × OwnStamp m.0.view w n × AcceptedOwn m.0.view w
 
   abbrev pub reads : Step ℕ → Me ℕ (Known M) → ℕ → Me ℕ (Known M) → Type 0
   reads st m n m' = Gains 0 (Read 0) n m m'
@@ -44,7 +44,7 @@ module _ {M : Type 0} where
 
   abbrev pub ends : (M → ℕ → ℕ → List ℕ) → (M → ℕ → ℕ) → (M → ℕ) → (M → ℕ) → Step ℕ → Me ℕ (Known M) → ℕ → Me ℕ (Known M) → Type 0
   ends entry wide lead last st m n m' =
-      (of : M) (r : Reading) → m.0.of ≡ Some of → m.0.view.reading ≡ Some r → Gains (lead of) (End r.window) n m m' × IsEntry entry wide last of n r
+      (of : M) (r : Reading) → m.0.of ≡ Some of → m.0.view.reading ≡ Some r → Gains (lead of) (End r.window) n m m' × IsEntry entry wide last of n r × IsBehindOwn (lead of) m.0.view r.window n
 
   abbrev pub stops : Step ℕ → Me ℕ (Known M) → ℕ → Me ℕ (Known M) → Type 0
   stops st m n m' = Gains 0 (Stop st.first) 0 m m'

@@ -1,8 +1,8 @@
-use Rattle.std.proofs.Common.{◌≡◌, Some, ◌-ℤ◌, FitsSigned, rules}
+use Rattle.std.proofs.Common.{arith, ◌≡◌, ◌*◌, ◌^◌, ◌≤◌, Some, ◌-ℤ◌, unsigned_abs, FitsSigned, rules}
 use Rattle.std.proofs.lemmas.Int.{to_z-of_z}
 use Rattle.std.specs.Int.{w128}
 use Rattle.boxed_problem.specs.Facts.{entry_at, limits_at}
-use Rattle.boxed_problem.specs.Sides.{side_at}
+use Rattle.boxed_problem.specs.Sides.{reach, side_at}
 use Rattle.propagate.specs.Tightening.{KeepsAbove}
 use Rattle.propagate.proofs.TightLaws.{cut_self, cut_is_above, upper_slack, upper_slack_fits}
 use Rattle.propagate.proofs.limits.below_limit.Goals as goal
@@ -30,7 +30,8 @@ cut_above-requires-clause-fits c =
     let fr : FitsSigned w128 c.args.range.low = search rules in
     let fv : FitsSigned w128 e.value = search rules in
     let fits = upper_slack_fits rows e.row c.args.range.low c.in-Some.upper h.limits_small h.low_small lim in
-    simp to_z-of_z h.entry_small
+    let small : unsigned_abs e.value * reach (side_at c.args.sides.now e.column) ≤ 2 ^ 125 = omega (arith, h.entry_small) in
+    simp to_z-of_z small
 
 pub cut_above-requires-clause-slack : goal.cut_above-requires-clause-slack
 cut_above-requires-clause-slack c =

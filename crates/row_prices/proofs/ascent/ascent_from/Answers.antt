@@ -7,5 +7,5 @@ invariant_of-result c =
     let r = c.in_ok-columns.field-0 in
     record {
       facts = starts_right r.columns c.args.sides.now c.in_ok-sides.sides b.columns c.in_ok-rows.rows b.rows c.in_ok-entries.entries b.entries r.line r.square c.in_ok-values.values c.args.prices.now.values
-          c.in_ok-columns.ensures.columns c.in_ok-sides.ensures c.in_ok-rows.ensures c.in_ok-values.ensures r.facts.lines r.facts.squares r.facts.convex c.requires.prices.long c.in_ok-entries.ensures c.requires.sides b.facts.places;
+          c.in_ok-columns.ensures.is.columns c.in_ok-sides.ensures c.in_ok-rows.ensures c.in_ok-values.ensures r.facts.lines r.facts.squares r.facts.convex c.requires.prices.long c.in_ok-entries.ensures c.requires.sides b.facts.places;
     }

@@ -1,20 +1,21 @@
-use Rattle.std.proofs.Common.{arith, ◌≡◌, pos, ◌≤ℤ◌, ◌<ℤ◌, FitsSigned, w64, rules}
+use Rattle.std.proofs.Common.{arith, ◌≡◌, ◌^◌, pos, ◌≤ℤ◌, ◌<ℤ◌, FitsSigned, w64, rules}
 use Rattle.std.proofs.lemmas.Int.{ints, to_z-of_z}
 use Rattle.std.specs.Int.{w128}
-use Rattle.safe_bound.proofs.Vertex.{falling_least, nearest_least, numbers_small, rising_least}
+use Rattle.safe_bound.proofs.Vertex.{falling_least, nearest_least, rising_least}
+use Rattle.boxed_problem.proofs.Narrower.{numbers_small}
 use Rattle.safe_bound.proofs.least_values.least_place.Goals as goal
 
 pub turning_place-requires-clause-small_line : goal.turning_place-requires-clause-small_line
 turning_place-requires-clause-small_line c =
     let a = c.ranges.line in
     let wide : c.args.side.lower <ℤ c.args.side.upper = omega (arith, ints, c.if-side.false) in
-    simp to_z-of_z ((numbers_small c.args.line c.args.square c.args.side wide c.requires.fits).0)
+    simp to_z-of_z ((numbers_small c.args.line c.args.square c.args.side (2 ^ 125) wide c.requires.fits).0)
 
 pub turning_place-requires-clause-small_square : goal.turning_place-requires-clause-small_square
 turning_place-requires-clause-small_square c =
     let a = c.ranges.square in
     let wide : c.args.side.lower <ℤ c.args.side.upper = omega (arith, ints, c.if-side.false) in
-    simp to_z-of_z ((numbers_small c.args.line c.args.square c.args.side wide c.requires.fits).1)
+    simp to_z-of_z ((numbers_small c.args.line c.args.square c.args.side (2 ^ 125) wide c.requires.fits).1)
 
 pub returns-then-square-gt0 : goal.returns-then-square-gt0
 returns-then-square-gt0 c =

@@ -4,7 +4,8 @@ use Rattle.std.specs.Int.{w128}
 use Rattle.safe_bound.specs.Leasts.{least_part}
 use Rattle.boxed_problem.specs.Sides.{reach, side_at}
 use Rattle.base_words.specs.Sums.{number_at}
-use Rattle.safe_bound.proofs.LeastLaws.{column_size-le, column_size-within, least_fits_upto}
+use Rattle.boxed_problem.proofs.Narrower.{column_size-le, column_size-within}
+use Rattle.safe_bound.proofs.LeastLaws.{least_fits_upto}
 use Rattle.base_words.proofs.SumBounds.{sum_below-next}
 use Rattle.safe_bound.proofs.least_values.least_value.Goals as goal
 

@@ -6,6 +6,7 @@ use Rattle.safe_bound.specs.Reducing.{kept_cost, kept_square}
 use Rattle.std.proofs.lemmas.List.{length-set}
 use Rattle.safe_bound.proofs.ReducedLaws.{one_more, reduced_data}
 use Rattle.safe_bound.proofs.RunLaws.{run_is, run_next}
+use Rattle.safe_bound.proofs.UnderLaws.{reduced_under}
 use Rattle.safe_bound.proofs.reducing.reduce_by.Goals as goal
 
 pub kept_cost-cost-requires-clause-run : goal.kept_cost-cost-requires-clause-run
@@ -42,8 +43,8 @@ invariant_of-result c =
     c.loop-j.invariant.lines c.loop-j.invariant.squares (λ k l. c.loop-j.invariant.line k (omega (arith, l, past))) (λ k l. c.loop-j.invariant.square k (omega (arith, l, past))) c.reduced_constant.ensures in
     record { facts = simp to_z-of_z facts }
 
-pub returns : goal.returns
-returns c =
+pub returns-clause-is : goal.returns-clause-is
+returns-clause-is c =
     let b = problem_of c.args.problem.now in
     let y = c.args.prices.now in
     let past : length b.columns ≤ c.loop-j.j = omega (arith, c.loop-j-test.false, c.len-j-end.ensures, ap length c.in_ok-columns.ensures) in
@@ -56,3 +57,9 @@ returns c =
       line = λ k l. c.loop-j.invariant.line k (omega (arith, l, past));
       square = λ k l. c.loop-j.invariant.square k (omega (arith, l, past));
     }
+
+pub returns-clause-under : goal.returns-clause-under
+returns-clause-under c =
+    let fs : FitsSigned w128 c.args.prices.now.scale = search rules in
+    let fc : FitsSigned w128 c.reduced_constant.result = search rules in
+    reduced_under (problem_of c.args.problem.now) c.args.prices.now _ c.args.problem.now.facts.places c.requires (returns-clause-is c)

@@ -1,7 +1,7 @@
 use Rattle.std.proofs.Common.{arith, ◌<◌, ◌+◌, ◌*◌, ◌∙◌, sym, ap, min, drop, length}
 use Rattle.stoch_lines.specs.Faults.{max_scenarios}
 use Rattle.scenario_lists.specs.Combinations.{combinations, realisations_at}
-use Rattle.scenario_lists.proofs.Capping.{cap_turn}
+use Rattle.capped_num.proofs.Capping.{cap_turn}
 use Rattle.scenario_lists.proofs.Digits.{all_counted, combinations_next}
 use Rattle.scenario_lists.proofs.counting.combinations.Goals as goal
 

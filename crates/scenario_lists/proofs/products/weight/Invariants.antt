@@ -1,5 +1,5 @@
 use Rattle.std.proofs.Common.{◌≡◌}
-use Rattle.scenario_lists.specs.Capped.{capped}
+use Rattle.capped_num.specs.Capped.{capped}
 use Rattle.scenario_lists.specs.Combinations.{weight_below}
 use Rattle.scenario_lists.proofs.products.weight.Given as goal
 

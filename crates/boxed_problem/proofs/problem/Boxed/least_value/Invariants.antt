@@ -1,7 +1,0 @@
-use Rattle.std.proofs.Common.{◌≡◌, ◌+ℤ◌}
-use Rattle.boxed_problem.specs.Leasts.{least_part}
-use Rattle.base_words.specs.Sums.{sum_below}
-use Rattle.boxed_problem.proofs.problem.Boxed.least_value.Given as goal
-
-abbrev pub invariant-loop-j : goal.invariant-loop-j
-invariant-loop-j l = l.sum ≡ (l.self.constant +ℤ sum_below l.j (least_part l.self.line l.self.square l.sides))

@@ -1,9 +1,0 @@
-use Rattle.std.proofs.Common.{◌≡◌, take}
-use Rattle.boxed_problem.specs.Ranges.{high_activity, low_activity}
-use Rattle.boxed_problem.proofs.row_ranges.row_range.Given as goal
-
-abbrev pub invariant-loop-entry : goal.invariant-loop-entry
-invariant-loop-entry l = record {
-  low : l.low ≡ low_activity (take l.entry-index l.entries) l.sides l.row;
-  high : l.high ≡ high_activity (take l.entry-index l.entries) l.sides l.row;
-}

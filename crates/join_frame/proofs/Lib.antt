@@ -1,0 +1,3 @@
+pub mod Commons
+pub mod Framed
+pub mod Made

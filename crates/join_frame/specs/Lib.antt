@@ -1,0 +1,3 @@
+pub mod Naming
+pub mod LiveRows
+pub mod Sourcing

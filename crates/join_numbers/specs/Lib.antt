@@ -1,0 +1,5 @@
+pub mod Sizes
+pub mod Unfit
+pub mod Limiting
+pub mod Turning
+pub mod Changing

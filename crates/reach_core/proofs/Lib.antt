@@ -1,0 +1,5 @@
+pub mod Capped
+pub mod Made
+pub mod Within
+pub mod Costs
+pub mod Data

@@ -1,0 +1,88 @@
+-- The options that stand behind the files, each with a name, a range and a default.
+use Rattle.std.specs.Prelude.{ℕ, ◌+◌, ◌-◌, ◌*◌, ◌/◌, ◌<◌, List, [], ◌∷◌, Bool, Option, Some, None, length, codes, slice_index_or}
+use Rattle.std.specs.List.{filter, list_all, list_any, range_with_len}
+use Rattle.std.specs.Str.{bytes_eq}
+use Rattle.run_words.specs.Numerals.{number_in}
+use Rattle.run_words.specs.declared.given.Given.{Given}
+use Rattle.run_words.specs.declared.given.Given.TheVariants.{Never, Once, Again}
+
+-- an option: its name, the least and the greatest number for it, and the number that it has where it isn't given
+pub record Setting : Type 0 where
+  pub name : List ℕ
+  pub least : ℕ
+  pub greatest : ℕ
+  pub default : ℕ
+
+abbrev pub scale_option : Setting
+scale_option = record { name = codes "--scale"; least = 1; greatest = 1000000; default = 1000 }
+
+abbrev pub rho_option : Setting
+rho_option = record { name = codes "--rho"; least = 1; greatest = 1000000000; default = 1000 }
+
+abbrev pub iterations_option : Setting
+iterations_option = record { name = codes "--iterations"; least = 0; greatest = 100000; default = 20 }
+
+abbrev pub budget_option : Setting
+budget_option = record { name = codes "--budget"; least = 1; greatest = 1000000000; default = 1000000 }
+
+abbrev pub box_option : Setting
+box_option = record { name = codes "--box"; least = 1; greatest = 1000000000; default = 1000000 }
+
+-- all of them
+abbrev pub settings : List Setting
+settings = scale_option ∷ rho_option ∷ iterations_option ∷ budget_option ∷ box_option ∷ []
+
+-- the word at a place, empty past the end
+abbrev pub word_at : List (List ℕ) → ℕ → List ℕ
+word_at words k = slice_index_or words k []
+
+-- how many pairs of a name and a value stand behind the first four words
+abbrev pub pair_count : List (List ℕ) → ℕ
+pair_count words = (length words - 4) / 2
+
+-- the name and the value of pair k
+abbrev pub name_of : List (List ℕ) → ℕ → List ℕ
+name_of words k = word_at words (4 + 2 * k)
+
+abbrev pub value_of : List (List ℕ) → ℕ → List ℕ
+value_of words k = word_at words (5 + 2 * k)
+
+-- whether a word is the name of an option
+abbrev pub is_option : List ℕ → Bool
+is_option word = list_any (λ (setting : Setting). bytes_eq word setting.name) settings
+
+-- whether each pair begins with the name of an option
+abbrev pub are_options : List (List ℕ) → Bool
+are_options words = list_all (λ k. is_option (name_of words k)) (range_with_len 0 (pair_count words))
+
+-- the pairs among the first n that begin with this name
+abbrev pub pairs_before : List ℕ → List (List ℕ) → ℕ → List ℕ
+pairs_before name words n = filter (λ k. bytes_eq (name_of words k) name) (range_with_len 0 n)
+
+-- how often an option is given, and where if once
+abbrev pub given_by : List ℕ → Given
+given_by [] = Never
+given_by (k ∷ []) = Once k
+given_by (k ∷ other ∷ more) = Again
+
+-- an option's number: the default where it isn't given, the number of its value where it is given once
+abbrev pub number_by : Setting → List (List ℕ) → Given → Option ℕ
+number_by setting words Never = Some setting.default
+number_by setting words (Once k) = number_in setting.least setting.greatest (value_of words k)
+number_by setting words Again = None
+
+-- the number that the words set for an option; none where it is given twice, or by anything but a number in its range
+abbrev pub number_for : Setting → List (List ℕ) → Option ℕ
+number_for setting words = number_by setting words (given_by (pairs_before setting.name words (pair_count words)))
+
+-- one pair more of the name
+abbrev pub with_one : Given → ℕ → Given
+with_one Never k = Once k
+with_one (Once other) k = Again
+with_one Again k = Again
+
+-- a pair that is given stands below n
+abbrev pub IsBelow : Given → ℕ → Type 0
+IsBelow Never n = Unit {0}
+IsBelow (Once k) n = k < n
+IsBelow Again n = Unit {0}

@@ -1,0 +1,11 @@
+pub mod ColumnFacts
+pub mod Counted
+pub mod Counts
+pub mod EntriesKept
+pub mod FrameIs
+pub mod FromStoch
+pub mod Listed
+pub mod Refusing
+pub mod RunIs
+pub mod ScenarioFacts
+pub mod TreeShape

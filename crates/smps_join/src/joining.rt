@@ -1,0 +1,170 @@
+ghost use Rattle.std.specs.Prelude.{◌≡◌, ◌<◌, ◌≤◌, false, length, pos};
+ghost use Rattle.smps_stoch.specs.StochFacts.{StochFacts};
+ghost use Rattle.scenario_lists.specs.ScenarioList.{count_of, scenarios_of};
+ghost use Rattle.sp_model.specs.Facts.{OptionFacts};
+ghost use Rattle.join_words.specs.Framing.{frame_of};
+ghost use Rattle.join_words.specs.Joining.{IsTimely, Joins, source_of};
+ghost use Rattle.join_words.specs.RunOf.{has_many_cells, is_crowded, is_vast, nonleaf_of, options_of, program_of, total_of};
+ghost use Rattle.smps_join.specs.Cutting.{cut_options};
+ghost use Rattle.smps_join.specs.Joinable.{CanJoin};
+
+use crate::anticipation::{first_early, nonleaf};
+use crate::cells::{has_many_cells, has_many_changes};
+use crate::making::program;
+use crate::weighing::total;
+use capped_num::CAP;
+use join_frame::frame;
+use join_numbers::MakeFault;
+use join_words::{Frame, JoinFault};
+use reach_core::run_reach;
+use scenario_lists::{ScenarioData, scenario_count, scenarios};
+use smps_stoch::Stoch;
+use smps_words::{Core, Periods};
+use sp_model::{Options, Program, Run};
+use std::alloc::Global;
+use std::cmp;
+use wide_num::List;
+
+/// The greatest reach of a run: 2^120.
+const MAX_REACH: u128 = 1_329_227_995_784_915_872_903_807_060_280_344_576;
+
+// The options with no more ranks than scenarios.
+fn cut_options(options: &Options, count: usize) -> Options
+    ensures { result ≡ cut_options options.now count }
+{
+    Options {
+        ranks: cmp::min(options.ranks, count),
+        ..*options
+    }
+}
+
+// The run of a program, unless its reach is too great.
+fn reached(
+    alloc: Global,
+    core: &Core,
+    periods: &Periods,
+    stoch: &Stoch,
+    options: &Options,
+    program: Program,
+    total: i128,
+    nonleaf: u32,
+) -> Result<Run, JoinFault>
+    requires can { CanJoin core.now periods.now stoch.now options.now }
+    requires timely { IsTimely (source_of core.now periods.now stoch.now options.now) }
+    requires few { is_crowded (source_of core.now periods.now stoch.now options.now) ≡ false }
+    requires cells { is_vast (source_of core.now periods.now stoch.now options.now) ≡ false }
+    requires program { program ≡ program_of (source_of core.now periods.now stoch.now options.now) }
+    requires total { total ≡ total_of (source_of core.now periods.now stoch.now options.now) }
+    requires nonleaf { nonleaf ≡ nonleaf_of (source_of core.now periods.now stoch.now options.now) }
+    ensures { Joins result (source_of core.now periods.now stoch.now options.now) options.now }
+{
+    let options = cut_options(options, program.scenarios.len());
+    let Ok(reach) = run_reach(alloc, &program, &options, total, nonleaf) else {
+        return Err(JoinFault::Memory);
+    };
+    if reach > MAX_REACH {
+        return Err(JoinFault::Wide { reach });
+    }
+    Ok(Run {
+        program,
+        options,
+        total,
+        nonleaf,
+    })
+}
+
+// The run of listed scenarios.
+fn weighed(
+    alloc: Global,
+    core: &Core,
+    periods: &Periods,
+    stoch: &Stoch,
+    options: &Options,
+    frame: &Frame,
+    listed: &List<ScenarioData>,
+    nonleaf: u32,
+) -> Result<Run, JoinFault>
+    requires can { CanJoin core.now periods.now stoch.now options.now }
+    requires timely { IsTimely (source_of core.now periods.now stoch.now options.now) }
+    requires few { is_crowded (source_of core.now periods.now stoch.now options.now) ≡ false }
+    requires cells { is_vast (source_of core.now periods.now stoch.now options.now) ≡ false }
+    requires frame { frame.now ≡ frame_of (source_of core.now periods.now stoch.now options.now) }
+    requires listed { listed.now ≡ scenarios_of stoch.now }
+    requires nonleaf { nonleaf ≡ nonleaf_of (source_of core.now periods.now stoch.now options.now) }
+    ensures { Joins result (source_of core.now periods.now stoch.now options.now) options.now }
+{
+    let Some(total) = total(listed.as_slice()) else {
+        return Err(JoinFault::Wide { reach: CAP });
+    };
+    match program(alloc, core, periods, stoch, frame, listed) {
+        Err(MakeFault::Unfit) => Err(JoinFault::Wide { reach: CAP }),
+        Err(MakeFault::Memory) => Err(JoinFault::Memory),
+        Ok(program) => reached(
+            alloc, core, periods, stoch, options, program, total, nonleaf,
+        ),
+    }
+}
+
+// The run of so many scenarios.
+fn listed(
+    alloc: Global,
+    core: &Core,
+    periods: &Periods,
+    stoch: &Stoch,
+    options: &Options,
+    count: usize,
+    nonleaf: u32,
+) -> Result<Run, JoinFault>
+    requires can { CanJoin core.now periods.now stoch.now options.now }
+    requires timely { IsTimely (source_of core.now periods.now stoch.now options.now) }
+    requires few { is_crowded (source_of core.now periods.now stoch.now options.now) ≡ false }
+    requires cells { has_many_cells count (length core.now.columns) (length core.now.rows) nonleaf ≡ false }
+    requires count { count ≡ count_of stoch.now }
+    requires nonleaf { nonleaf ≡ nonleaf_of (source_of core.now periods.now stoch.now options.now) }
+    ensures { Joins result (source_of core.now periods.now stoch.now options.now) options.now }
+{
+    let Ok(frame) = frame(alloc, core, periods, stoch, options.missing) else {
+        return Err(JoinFault::Memory);
+    };
+    let Ok(listed) = scenarios(alloc, stoch, count) else {
+        return Err(JoinFault::Memory);
+    };
+    if has_many_changes(&frame.sides, listed.as_slice()) {
+        return Err(JoinFault::TooManyCells);
+    }
+    weighed(
+        alloc, core, periods, stoch, options, &frame, &listed, nonleaf,
+    )
+}
+
+/// The run of a core, its periods, a stoch file and some options: missing ends
+/// of boxes are filled in by `options.missing`, costs and rows are scaled by
+/// their common powers of ten, and there are no more ranks than scenarios.
+///
+/// The refusals come in this order, each exactly where its cause holds:
+/// `Anticipates`, `TooManyScenarios`, `TooManyCells`, `Wide`.
+pub fn join(
+    alloc: Global,
+    core: &Core,
+    periods: &Periods,
+    stoch: &Stoch,
+    options: &Options,
+) -> Result<Run, JoinFault>
+    requires options { OptionFacts options.now }
+    requires columns { 0 < length core.now.columns }
+    requires stoch { StochFacts core.now periods.now stoch.now }
+    ensures { Joins result (source_of core.now periods.now stoch.now options.now) options.now }
+{
+    if let Some(line) = first_early(periods, core.entries.as_slice()) {
+        return Err(JoinFault::Anticipates { line });
+    }
+    let Ok(count) = scenario_count(stoch) else {
+        return Err(JoinFault::TooManyScenarios);
+    };
+    let columns = core.columns.len();
+    let nonleaf = nonleaf(periods, columns as u32);
+    if has_many_cells(count, columns, core.rows.len(), nonleaf as usize) {
+        return Err(JoinFault::TooManyCells);
+    }
+    listed(alloc, core, periods, stoch, options, count, nonleaf)
+}

@@ -1,9 +1,0 @@
--- The stage of a column or a row
-use Rattle.std.specs.Prelude.{ℕ, ◌-◌, ◌<◌, ◌≤◌, List, length, slice_index}
-
--- the last of the periods, numbered from 1, whose first one isn't after this one
-pub record IsStageOf (firsts : List ℕ) (number stage : ℕ) : Type 0 where
-  pub counted : 1 ≤ stage
-  pub there : stage ≤ length firsts
-  pub begun : slice_index firsts (stage - 1) ≤ number
-  pub later : (k : ℕ) → stage ≤ k → k < length firsts → number < slice_index firsts k

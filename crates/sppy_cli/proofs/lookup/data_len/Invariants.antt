@@ -1,6 +1,0 @@
-use Rattle.std.proofs.Common.{◌≡◌, ℕ, ◌<◌, false, get_or}
-use Rattle.line_core.specs.declared.line_list.Line.{Line}
-use Rattle.sppy_cli.proofs.lookup.data_len.Given as goal
-
-abbrev pub invariant-loop-i : goal.invariant-loop-i
-invariant-loop-i l = (k : ℕ) (d : Line) → k < l.i → (get_or l.lines k d).header ≡ false

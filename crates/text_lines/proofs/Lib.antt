@@ -1,0 +1,3 @@
+pub mod RowLimitLaws
+pub mod Ranges
+pub mod Units

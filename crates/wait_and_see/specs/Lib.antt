@@ -1,0 +1,2 @@
+pub mod WaitAnswers
+pub mod Solving
