@@ -1,3 +1,4 @@
+-- A problem keeps its facts where its box becomes narrower.
 use Rattle.std.proofs.Common.{arith, refl, ap, sym, subst, ◌∙◌, ℕ, zero, suc, ◌<◌, ◌≤◌, List, [], ◌∷◌, length, set, ℤ, ◌≤ℤ◌}
 use Rattle.std.proofs.lemmas.Int.{ints}
 use Rattle.std.specs.List.{All}

@@ -1,3 +1,4 @@
+-- Going over the points one by one finds the first feasible one of least value.
 use Rattle.std.proofs.Common.{arith, refl, ap, sym, ◌∙◌, ◌≡◌, Bool, true, false, ◌&&◌, List, [], ◌∷◌, ℤ, int_lt, Option, Some, None, if◌then◌else◌}
 use Rattle.std.proofs.lemmas.Int.{ints}
 use Rattle.std.specs.List.{fold, filter}

@@ -1,3 +1,4 @@
+-- The data of a scenario problem as a record of plain lists, without the facts that its type keeps.
 use Rattle.std.specs.Prelude.{List, ℤ}
 use Rattle.boxed_problem.specs.declared.parts.Entry.{Entry}
 use Rattle.boxed_problem.specs.declared.parts.Limits.{Limits}

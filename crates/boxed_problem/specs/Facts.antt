@@ -1,3 +1,4 @@
+-- The facts of a scenario problem: how great its objective and its rows may become.
 use Rattle.std.specs.Prelude.{◌≡◌, ℕ, ◌+◌, ◌*◌, ◌^◌, ◌<◌, ◌≤◌, ◌==◌, max, List, length, ℤ, pos, ◌≤ℤ◌, unsigned_abs, slice_index_or, Option, Some, None, if◌then◌else◌}
 use Rattle.std.specs.List.{All, sum_by}
 use Rattle.boxed_problem.specs.Sides.{side_at, reach}

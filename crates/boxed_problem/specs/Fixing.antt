@@ -1,3 +1,4 @@
+-- What it means that a column of a problem is fixed to a value.
 use Rattle.std.specs.Prelude.{◌≡◌, ℕ, ℤ, slice_set}
 use Rattle.boxed_problem.specs.declared.problem.Boxed.{Boxed}
 

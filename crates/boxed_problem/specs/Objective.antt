@@ -1,3 +1,4 @@
+-- The objective of a problem at a point.
 use Rattle.std.specs.Prelude.{ℕ, List, length, ℤ, ◌+ℤ◌, ◌*ℤ◌}
 use Rattle.base_words.specs.Sums.{sum_below, number_at}
 use Rattle.boxed_problem.specs.Data.{Problem}

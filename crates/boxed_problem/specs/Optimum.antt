@@ -1,3 +1,4 @@
+-- Feasible points, and the first feasible point of least value.
 use Rattle.std.specs.Prelude.{◌≡◌, ℕ, ◌<◌, Bool, true, ◌&&◌, List, [], ◌∷◌, length, ℤ, ◌≤ℤ◌, ◌<ℤ◌, ◌⊎◌, int_lt, IsTrue, Option, Some, None, if◌then◌else◌}
 use Rattle.std.specs.List.{filter}
 use Rattle.boxed_problem.specs.Facts.{limits_at}

@@ -1,3 +1,4 @@
+-- Which data a problem has that was made of these parts.
 use Rattle.std.specs.Prelude.{◌≡◌, List, ℤ}
 use Rattle.boxed_problem.specs.declared.parts.Entry.{Entry}
 use Rattle.boxed_problem.specs.declared.parts.Limits.{Limits}

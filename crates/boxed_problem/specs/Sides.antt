@@ -1,3 +1,4 @@
+-- The sides of a box, and boxes within boxes.
 use Rattle.std.specs.Prelude.{◌≡◌, ℕ, ◌<◌, List, length, map, ℤ, pos, ◌≤ℤ◌, max, unsigned_abs, slice_index_or}
 use Rattle.std.specs.List.{AllByRecursion}
 use Rattle.boxed_problem.specs.declared.parts.Side.{Side}

@@ -38,7 +38,10 @@ fn comes_before(first: Entry, second: Entry) -> bool
 
 /// Whether each entry stands before the next one in the order of columns and rows.
 fn are_ascending(entries: &[Entry]) -> bool
-    ensures { IsTrue result ↔ ((k : ℕ) → k + 1 < length entries.now → ComesBefore (entry_at entries.now k) (entry_at entries.now (k + 1))) }
+    ensures { IsTrue result
+        ↔
+        ((k : ℕ) → k + 1 < length entries.now →
+        ComesBefore (entry_at entries.now k) (entry_at entries.now (k + 1))) }
 {
     for next in 1..entries.len() {
         if !comes_before(entries[next - 1], entries[next]) {
@@ -51,7 +54,8 @@ fn are_ascending(entries: &[Entry]) -> bool
 /// Whether the magnitude of each row is small enough.
 fn rows_fit(columns: &[Side], rows: &[Limits], entries: &[Entry]) -> bool
     requires { All (λ e. e.column < length columns.now) entries.now }
-    ensures { IsTrue result ↔ ((i : ℕ) → i < length rows.now → row_size columns.now rows.now entries.now i ≤ 2 ^ 122) }
+    ensures { IsTrue result
+        ↔ ((i : ℕ) → i < length rows.now → row_size columns.now rows.now entries.now i ≤ 2 ^ 122) }
 {
     for row in 0..rows.len() {
         if row_size_upto(columns, rows, entries, row, PART_MOST).is_none() {

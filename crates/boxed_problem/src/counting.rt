@@ -8,7 +8,8 @@ use crate::problem::Boxed;
 /// than a million.
 fn count_on(side: Side) -> Option<u64>
     requires { side.lower ≤ℤ side.upper }
-    ensures { MatchOption result (1000000 < side_count side) (λ n. (n ≡ side_count side) × (n ≤ 1000000)) }
+    ensures { MatchOption result (1000000 < side_count side)
+        (λ n. (n ≡ side_count side) × (n ≤ 1000000)) }
 {
     let far = i128::from(side.upper) - i128::from(side.lower);
     if far >= 1000000 {

@@ -10,7 +10,10 @@ impl Boxed {
     /// nothing, exactly where the value is outside the box.
     pub fn fix(&mut self, column: u32, value: i64) -> bool
         requires { column < length self.old.columns }
-        ensures inside { IsTrue result ↔ (((side_at self.old.columns column).lower ≤ℤ value) × (value ≤ℤ (side_at self.old.columns column).upper)) }
+        ensures inside { IsTrue result
+            ↔
+            (((side_at self.old.columns column).lower ≤ℤ value)
+            × (value ≤ℤ (side_at self.old.columns column).upper)) }
         ensures fixed { result ≡ true → IsFixed self.old self.new column value }
         ensures unchanged { result ≡ false → self.new ≡ self.old }
     {

@@ -33,7 +33,14 @@ pub fn add_product(sum: u128, a: u128, b: u128, most: u128) -> Option<u128>
 /// above `most`.
 fn add_column(sum: u128, side: Side, line: i128, square: i128, most: u128) -> Option<u128>
     requires { sum ≤ most }
-    ensures { MatchOption result (most < sum + (unsigned_abs line * reach side + unsigned_abs square * (reach side * reach side))) (λ r. (r ≡ sum + (unsigned_abs line * reach side + unsigned_abs square * (reach side * reach side))) × (r ≤ most)) }
+    ensures { MatchOption result
+        (most
+        < sum +
+        (unsigned_abs line * reach side + unsigned_abs square * (reach side * reach side)))
+        (λ r. (r
+        ≡ sum +
+        (unsigned_abs line * reach side + unsigned_abs square *
+        (reach side * reach side))) × (r ≤ most)) }
 {
     let far = u128::from(side_reach(side));
     let linear = add_product(sum, line.unsigned_abs(), far, most)?;
@@ -51,7 +58,8 @@ pub fn value_size_upto(
 ) -> Option<u128>
     requires lines { length line.now ≡ length columns.now }
     requires squares { length square.now ≡ length columns.now }
-    ensures { MatchOption result (most < value_size columns.now constant line.now square.now) (λ r. (r ≡ value_size columns.now constant line.now square.now) × (r ≤ most)) }
+    ensures { MatchOption result (most < value_size columns.now constant line.now square.now)
+        (λ r. (r ≡ value_size columns.now constant line.now square.now) × (r ≤ most)) }
 {
     let mut sum = constant.unsigned_abs();
     if most < sum {
@@ -90,7 +98,8 @@ fn limits_reach(limits: Limits) -> u128
 fn add_entry(sum: u128, columns: &[Side], entry: Entry, row: usize, most: u128) -> Option<u128>
     requires sum { sum ≤ most }
     requires place { entry.column < length columns.now }
-    ensures { MatchOption result (most < sum + entry_size columns.now row entry) (λ r. (r ≡ sum + entry_size columns.now row entry) × (r ≤ most)) }
+    ensures { MatchOption result (most < sum + entry_size columns.now row entry)
+        (λ r. (r ≡ sum + entry_size columns.now row entry) × (r ≤ most)) }
 {
     if entry.row as usize != row {
         return Some(sum);
@@ -110,7 +119,8 @@ pub fn row_size_upto(
 ) -> Option<u128>
     requires row { row < length rows.now }
     requires places { All (λ e. e.column < length columns.now) entries.now }
-    ensures { MatchOption result (most < row_size columns.now rows.now entries.now row) (λ r. (r ≡ row_size columns.now rows.now entries.now row) × (r ≤ most)) }
+    ensures { MatchOption result (most < row_size columns.now rows.now entries.now row)
+        (λ r. (r ≡ row_size columns.now rows.now entries.now row) × (r ≤ most)) }
 {
     let mut sum = limits_reach(rows[row]);
     if most < sum {

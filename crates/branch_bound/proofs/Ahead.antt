@@ -8,7 +8,7 @@ use Rattle.safe_bound.specs.Leasts.{least_value}
 use Rattle.boxed_problem.specs.Objective.{value_of}
 use Rattle.boxed_problem.specs.Odometer.{OnSides}
 use Rattle.boxed_problem.specs.Optimum.{IsBest, best_of, first_least, improves, lower_of, meets_all, priced}
-use Rattle.branch_bound.specs.PlainSearch.{Progress, go_on, is_left, nothing_yet, ref_count, search, search_all, width, with_opened}
+use Rattle.branch_bound.specs.PlainSearch.{Progress, go_on, is_pruned, nothing_yet, ref_count, search, search_all, width, with_opened}
 use Rattle.boxed_problem.specs.Points.{box_points}
 use Rattle.propagate.specs.Ranges.{misses_one}
 use Rattle.boxed_problem.specs.Sides.{Filled}
@@ -20,7 +20,7 @@ use Rattle.boxed_problem.proofs.Least.{best_after, best_after-is, merged}
 use Rattle.boxed_problem.proofs.Listing.{on_in}
 use Rattle.boxed_problem.proofs.Members.{listed_on}
 use Rattle.boxed_problem.proofs.Optimal.{best_is}
-use Rattle.branch_bound.proofs.SearchLaws.{search_all-opens, search_all-push, search_best, search_finds, search_left, search_on, search_opens_one}
+use Rattle.branch_bound.proofs.SearchLaws.{search_all-opens, search_all-push, search_best, search_finds, search_pruned, search_on, search_opens_one}
 use Rattle.branch_bound.specs.Narrowing.{IsBar, NoneBelow, NotPast}
 
 -- beside a search that began with nothing, one that began with something to beat: its best is the other's where that is below
@@ -90,9 +90,9 @@ below_earlier v (Some a) (Some r) h = by_test (int_lt r.value a.value) refl h
 pub below_after : (b : Problem) (best : Option Best) (xs : List (List ℤ)) (v : ℤ) → improves v (best_after b best xs) ≡ true → improves v best ≡ true
 below_after b best xs v h = below_earlier v best (first_least b (filter (meets_all b) xs)) (ap (λ o. improves v o) (sym (best_after-is b best xs)) ∙ h)
 
--- a box that isn't left where there is more to beat isn't left
-pub not_left_later : (b : Problem) (box : List Side) (start best : Option Best) → is_left b box (merged start best) ≡ false → is_left b box best ≡ false
-not_left_later b box start best h =
+-- a box that isn't pruned where there is more to beat isn't pruned
+pub not_pruned_later : (b : Problem) (box : List Side) (start best : Option Best) → is_pruned b box (merged start best) ≡ false → is_pruned b box best ≡ false
+not_pruned_later b box start best h =
     by_tests (misses_one (length b.rows) b.rows b.entries box) (improves (least_value b box) (merged start best)) (improves (least_value b box) best) h (below_later (least_value b box) start best)
   where
     by_tests : (m i j : Bool) → (m || not i) ≡ false → (i ≡ true → j ≡ true) → (m || not j) ≡ false
@@ -109,7 +109,7 @@ ahead_best b start box p q f e =
 
 fewer : (n : ℕ) (b : Problem) (start : Option Best) (box : List Side) (p q : Progress) → Filled box → width box < n → Ahead start p q → (search b box p).opened ≤ (search b box q).opened
 fewer zero b start box p q f w a = absurd (omega arith)
-fewer (suc n) b start box p q f w a = by_test (is_left b box p.best) refl
+fewer (suc n) b start box p q f w a = by_test (is_pruned b box p.best) refl
     (λ h e s t k. let cut = cut_of box h e in let g = filled_cut cut f in let m = narrower cut in
     let first = fewer n b start h.low s t g.0 (omega (arith, m.0)) k in
     fewer n b start h.high (search b h.low s) (search b h.low t) g.1 (omega (arith, m.1)) (record { best = ahead_best b start h.low s t g.0 k.best; opened = first }))
@@ -119,14 +119,14 @@ fewer (suc n) b start box p q f w a = by_test (is_left b box p.best) refl
     by_halves None e r = omega (arith, a.opened)
     by_halves (Some h) e r = r h e (with_opened p) (with_opened q) (record { best = a.best; opened = omega (arith, a.opened) })
 
-    by_test : (t : Bool) → is_left b box p.best ≡ t → ((h : Halves) → halves box ≡ Some h → (s t : Progress) → Ahead start s t → (search b h.high (search b h.low s)).opened ≤ (search b h.high (search b h.low t)).opened) →
+    by_test : (t : Bool) → is_pruned b box p.best ≡ t → ((h : Halves) → halves box ≡ Some h → (s t : Progress) → Ahead start s t → (search b h.high (search b h.low s)).opened ≤ (search b h.high (search b h.low t)).opened) →
         (search b box p).opened ≤ (search b box q).opened
     by_test true e r =
-        let left = ap (λ (s : Progress). s.opened) (search_left b box p e) in
+        let left = ap (λ (s : Progress). s.opened) (search_pruned b box p e) in
         let one = search_opens_one b box q in
         omega (arith, left, one, a.opened)
     by_test false e r =
-        let stays = not_left_later b box start q.best (ap (λ o. is_left b box o) (sym a.best) ∙ e) in
+        let stays = not_pruned_later b box start q.best (ap (λ o. is_pruned b box o) (sym a.best) ∙ e) in
         let one = ap (λ (s : Progress). s.opened) (search_on b box p (halves box) e refl) in
         let two = ap (λ (s : Progress). s.opened) (search_on b box q (halves box) stays refl) in
         omega (arith, one, two, by_halves (halves box) refl r)

@@ -9,7 +9,7 @@ use Rattle.safe_bound.specs.Leasts.{least_part, least_value}
 use Rattle.boxed_problem.specs.Objective.{value_of}
 use Rattle.boxed_problem.specs.Odometer.{OnSides}
 use Rattle.boxed_problem.specs.Optimum.{improves}
-use Rattle.branch_bound.specs.PlainSearch.{Progress, is_left, search, with_opened}
+use Rattle.branch_bound.specs.PlainSearch.{Progress, is_pruned, search, with_opened}
 use Rattle.boxed_problem.specs.Points.{InBox, box_points}
 use Rattle.propagate.specs.Ranges.{high_activity, high_part, low_activity, low_part, misses, misses_one}
 use Rattle.boxed_problem.specs.Rows.{is_above, is_below}
@@ -98,8 +98,8 @@ improves_less None a v h e = absurd cc
 improves_less (Some r) a v h e = let k = above_from_test a r.value e in test_from_above v r.value (omega (arith, ints))
 
 -- where the plain search wouldn't leave the sides, it doesn't leave a box that holds them
-pub not_left_wider : (b : Problem) (inner outer : List Side) (best : Option Best) → Within inner outer → is_left b inner best ≡ false → is_left b outer best ≡ false
-not_left_wider b inner outer best w e =
+pub not_pruned_wider : (b : Problem) (inner outer : List Side) (best : Option Best) → Within inner outer → is_pruned b inner best ≡ false → is_pruned b outer best ≡ false
+not_pruned_wider b inner outer best w e =
     neither (misses_one (length b.rows) b.rows b.entries outer) (not (improves (least_value b outer) best))
     (none_missed_wider (length b.rows) b.rows b.entries inner outer w (either_left (misses_one (length b.rows) b.rows b.entries inner) (not (improves (least_value b inner) best)) e))
     (by_test (improves (least_value b outer) best) refl (not_not (improves (least_value b inner) best) (either_right (misses_one (length b.rows) b.rows b.entries inner) (not (improves (least_value b inner) best)) e)))
@@ -119,7 +119,7 @@ none_later b best box xs h x i m = by_test (improves (value_of b x) (best_after 
     by_test false e = refl
 
 -- where nothing of the high half is below the best, the search of the low half is not past that of the box
-pub low_past : (b : Problem) (box : List Side) (h : Halves) (p : Progress) → halves box ≡ Some h → Filled box → is_left b box p.best ≡ false → NoneBelow b p.best h.high → NotPast (search b h.low p) (search b box p)
+pub low_past : (b : Problem) (box : List Side) (h : Halves) (p : Progress) → halves box ≡ Some h → Filled box → is_pruned b box p.best ≡ false → NoneBelow b p.best h.high → NotPast (search b h.low p) (search b box p)
 low_past b box h p e f l none =
     let g = filled_cut (cut_of box h e) f in
     let t = search b h.low (with_opened p) in
@@ -131,7 +131,7 @@ low_past b box h p e f l none =
     subst (λ u. NotPast (search b h.low p) u) (sym step) (not_past-trans (search b h.low p) t (search b h.high t) first second)
 
 -- the same where nothing of the low half is
-pub high_past : (b : Problem) (box : List Side) (h : Halves) (p : Progress) → halves box ≡ Some h → Filled box → is_left b box p.best ≡ false → NoneBelow b p.best h.low → NotPast (search b h.high p) (search b box p)
+pub high_past : (b : Problem) (box : List Side) (h : Halves) (p : Progress) → halves box ≡ Some h → Filled box → is_pruned b box p.best ≡ false → NoneBelow b p.best h.low → NotPast (search b h.high p) (search b box p)
 high_past b box h p e f l none =
     let g = filled_cut (cut_of box h e) f in
     let step : search b box p ≡ search b h.high (search b h.low (with_opened p)) = search_on b box p (Some h) l e in
@@ -179,7 +179,7 @@ pub keeps_within : (b : Problem) (best : Option Best) (to box sides : List Side)
 keeps_within b best to box sides w k x i m d = k x (in_wider to box x w i) m d
 
 -- the search of a box further down is not past that of the one above
-pub descends_past : {sides box to : List Side} → Descends sides box to → (b : Problem) (p : Progress) → Filled box → Within sides box → KeepsBetter b p.best box sides → is_left b sides p.best ≡ false →
+pub descends_past : {sides box to : List Side} → Descends sides box to → (b : Problem) (p : Progress) → Filled box → Within sides box → KeepsBetter b p.best box sides → is_pruned b sides p.best ≡ false →
     NotPast (search b to p) (search b box p)
 descends_past (Descends.here box) b p f w k l = record { best = refl; opened = omega arith }
 descends_past {sides = sides} (Descends.low {box = box} {mid = mid} h d e v) b p f w k l =
@@ -187,10 +187,10 @@ descends_past {sides = sides} (Descends.low {box = box} {mid = mid} h d e v) b p
     let s = descends_holds d w in
     let none = high_none b p.best mid sides h e m.filled v (keeps_within b p.best mid box sides m k) in
     not_past-trans (search b h.low p) (search b mid p) (search b box p)
-    (low_past b mid h p e m.filled (not_left_wider b sides mid p.best s l) none) (descends_past d b p f w k l)
+    (low_past b mid h p e m.filled (not_pruned_wider b sides mid p.best s l) none) (descends_past d b p f w k l)
 descends_past {sides = sides} (Descends.high {box = box} {mid = mid} h d e v) b p f w k l =
     let m = descends_within d f in
     let s = descends_holds d w in
     let none = low_none b p.best mid sides h e m.filled v (keeps_within b p.best mid box sides m k) in
     not_past-trans (search b h.high p) (search b mid p) (search b box p)
-    (high_past b mid h p e m.filled (not_left_wider b sides mid p.best s l) none) (descends_past d b p f w k l)
+    (high_past b mid h p e m.filled (not_pruned_wider b sides mid p.best s l) none) (descends_past d b p f w k l)

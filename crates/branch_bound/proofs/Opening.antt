@@ -4,7 +4,7 @@ use Rattle.std.specs.List.{AllByRecursion}
 use Rattle.boxed_problem.specs.Data.{Problem}
 use Rattle.branch_bound.specs.Halves.{Halves, halves, high_half, low_half}
 use Rattle.boxed_problem.specs.Optimum.{priced}
-use Rattle.branch_bound.specs.PlainSearch.{Progress, is_left, nothing_yet, ref_count, search, search_all}
+use Rattle.branch_bound.specs.PlainSearch.{Progress, is_pruned, nothing_yet, ref_count, search, search_all}
 use Rattle.boxed_problem.specs.Sides.{corner}
 use Rattle.boxed_problem.specs.declared.parts.Best.{Best}
 use Rattle.boxed_problem.specs.declared.parts.Side.{Side}
@@ -26,12 +26,12 @@ use Rattle.branch_bound.proofs.Trees.{tree_halves, tree_open}
 
 -- the point of the sides is taken
 pub step_point : (b : Problem) (best : Option Best) (old : Trail) (frame : Frame) (sides : List Side) → IsCurrent b best old frame sides → Descends sides (tree_box b.columns sides frame.column frame.half) sides → halves sides ≡ None →
-    is_left b sides best ≡ false → IsStep b best (Some (priced b (corner sides))) (box_of b.columns old frame) sides None
+    is_pruned b sides best ≡ false → IsStep b best (Some (priced b (corner sides))) (box_of b.columns old frame) sides None
 step_point b best old frame sides cur d none l n =
     subst (λ box. NotPast (record { best = Some (priced b (corner sides)); opened = n + 1 }) (search b box (record { best = best; opened = n }))) cur.same
     (take_point b best (record { whole = tree_box b.columns sides frame.column frame.half; sides = sides }) sides n cur.node d none l)
 
-pub point_is : (b : Problem) (best : Option Best) (old : Trail) (frame : Frame) (sides : List Side) → IsCurrent b best old frame sides → halves sides ≡ None → is_left b sides best ≡ false →
+pub point_is : (b : Problem) (best : Option Best) (old : Trail) (frame : Frame) (sides : List Side) → IsCurrent b best old frame sides → halves sides ≡ None → is_pruned b sides best ≡ false →
     Falls best (Some (priced b (corner sides))) × IsFound b (Some (priced b (corner sides)))
 point_is b best old frame sides cur none l =
     let single = single_of sides cur.node.sides.filled none in
@@ -39,7 +39,7 @@ point_is b best old frame sides cur none l =
 
 -- the box is halved
 pub step_halved : (b : Problem) (best : Option Best) (old : Trail) (frame : Frame) (sides : List Side) (place : Place) → IsCurrent b best old frame sides →
-    IsReached b.columns sides (tree_box b.columns sides frame.column frame.half) place → is_left b sides best ≡ false → IsStep b best best (box_of b.columns old frame) sides (Some place)
+    IsReached b.columns sides (tree_box b.columns sides frame.column frame.half) place → is_pruned b sides best ≡ false → IsStep b best best (box_of b.columns old frame) sides (Some place)
 step_halved b best old frame sides place cur r l =
     let node : Node = record { whole = tree_box b.columns sides frame.column frame.half; sides = sides } in
     let to = tree_box b.columns sides place.column place.side in

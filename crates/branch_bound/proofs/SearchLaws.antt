@@ -1,3 +1,4 @@
+-- The plain search step by step, and that no depth cuts it short.
 use Rattle.std.proofs.Common.{arith, refl, ap, sym, ◌∙◌, ◌≡◌, ℕ, zero, suc, ◌+◌, ◌<◌, ◌≤◌, Bool, true, false, not, ◌&&◌, ◌||◌, List, [], ◌∷◌, ◌++◌, length, ℤ, ◌≤ℤ◌, Option, Some, None, if◌then◌else◌}
 use Rattle.std.proofs.lemmas.Int.{ints}
 use Rattle.std.proofs.lemmas.List.Sums.{fold-append}
@@ -7,7 +8,7 @@ use Rattle.safe_bound.specs.Leasts.{least_value}
 use Rattle.boxed_problem.specs.Objective.{value_of}
 use Rattle.boxed_problem.specs.Odometer.{OnSides}
 use Rattle.boxed_problem.specs.Optimum.{best_of, better, improves, meets_all, priced}
-use Rattle.branch_bound.specs.PlainSearch.{Progress, go_on, is_left, nothing_yet, search, search_all, search_within, width, with_opened}
+use Rattle.branch_bound.specs.PlainSearch.{Progress, go_on, is_pruned, nothing_yet, search, search_all, search_within, width, with_opened}
 use Rattle.boxed_problem.specs.Points.{box_points}
 use Rattle.propagate.specs.Ranges.{misses_one}
 use Rattle.boxed_problem.specs.Sides.{Filled, corner}
@@ -38,7 +39,7 @@ unfolding search_within
 depth_enough zero n b box p h k = absurd (omega arith)
 depth_enough (suc m) zero b box p h k = absurd (omega arith)
 depth_enough (suc m) (suc n) b box p h k =
-    ap (λ q. if is_left b box p.best then with_opened p else q)
+    ap (λ q. if is_pruned b box p.best then with_opened p else q)
     (go_on-same (λ half q. search_within m b half q) (λ half q. search_within n b half q) b box (halves box) (with_opened p)
     (λ c e. let w = narrower (cut_of box c e) in (
       λ q. depth_enough m n b c.low q (omega (arith, w.0)) (omega (arith, w.0)),
@@ -46,22 +47,22 @@ depth_enough (suc m) (suc n) b box p h k =
     )))
 
 -- the search of a box, by what it does first
-pub search_step : (b : Problem) (box : List Side) (p : Progress) → search b box p ≡ (if is_left b box p.best then with_opened p else go_on (search b) b box (halves box) (with_opened p))
+pub search_step : (b : Problem) (box : List Side) (p : Progress) → search b box p ≡ (if is_pruned b box p.best then with_opened p else go_on (search b) b box (halves box) (with_opened p))
 unfolding search search_within
 search_step b box p =
-    ap (λ q. if is_left b box p.best then with_opened p else q)
+    ap (λ q. if is_pruned b box p.best then with_opened p else q)
     (go_on-same (λ half q. search_within (width box) b half q) (search b) b box (halves box) (with_opened p)
     (λ c e. let w = narrower (cut_of box c e) in (
       λ q. depth_enough (width box) (suc (width c.low)) b c.low q w.0 (omega arith),
       λ q. depth_enough (width box) (suc (width c.high)) b c.high q w.1 (omega arith),
     )))
 
--- a box that is left is opened for nothing
-pub search_left : (b : Problem) (box : List Side) (p : Progress) → is_left b box p.best ≡ true → search b box p ≡ with_opened p
-search_left b box p e = search_step b box p ∙ ap (λ t. if t then with_opened p else go_on (search b) b box (halves box) (with_opened p)) e
+-- a box that is pruned is opened for nothing
+pub search_pruned : (b : Problem) (box : List Side) (p : Progress) → is_pruned b box p.best ≡ true → search b box p ≡ with_opened p
+search_pruned b box p e = search_step b box p ∙ ap (λ t. if t then with_opened p else go_on (search b) b box (halves box) (with_opened p)) e
 
--- a box that isn't left is halved, or gives its point
-pub search_on : (b : Problem) (box : List Side) (p : Progress) (o : Option Halves) → is_left b box p.best ≡ false → halves box ≡ o → search b box p ≡ go_on (search b) b box o (with_opened p)
+-- a box that isn't pruned is halved, or gives its point
+pub search_on : (b : Problem) (box : List Side) (p : Progress) (o : Option Halves) → is_pruned b box p.best ≡ false → halves box ≡ o → search b box p ≡ go_on (search b) b box o (with_opened p)
 search_on b box p o e d =
     search_step b box p
     ∙ (ap (λ t. if t then with_opened p else go_on (search b) b box (halves box) (with_opened p)) e ∙ ap (λ h. go_on (search b) b box h (with_opened p)) d)
@@ -79,9 +80,9 @@ improves_less : (best : Option Best) (a v : ℤ) → a ≤ℤ v → improves a b
 improves_less None a v h e = absurd cc
 improves_less (Some r) a v h e = let k = above_from_test a r.value e in test_from_above v r.value (omega (arith, ints))
 
--- the best so far stays at each point of a box that is left
-pub left_stays : (b : Problem) (box : List Side) (best : Option Best) (x : List ℤ) → Lies box x → is_left b box best ≡ true → better b best x ≡ best
-left_stays b box best x h e = ap (λ t. if t then Some (priced b x) else best) (not_taken (misses_one (length b.rows) b.rows b.entries box) (improves (least_value b box) best) refl refl e)
+-- the best so far stays at each point of a box that is pruned
+pub pruned_stays : (b : Problem) (box : List Side) (best : Option Best) (x : List ℤ) → Lies box x → is_pruned b box best ≡ true → better b best x ≡ best
+pruned_stays b box best x h e = ap (λ t. if t then Some (priced b x) else best) (not_taken (misses_one (length b.rows) b.rows b.entries box) (improves (least_value b box) best) refl refl e)
   where
     not_met : (t : Bool) → meets_all b x ≡ t → misses_one (length b.rows) b.rows b.entries box ≡ true → t ≡ false
     not_met true d m = sym m ∙ rows_not_missed (length b.rows) b.rows b.entries box x h d
@@ -92,16 +93,16 @@ left_stays b box best x h e = ap (λ t. if t then Some (priced b x) else best) (
     not_taken false true d k f = absurd cc
     not_taken false false d k f = both_tests (meets_all b x) (improves (value_of b x) best) (improves_less best (least_value b box) (value_of b x) (least_holds b box x h) k)
 
-stays : (b : Problem) (box : List Side) (best : Option Best) (xs : List (List ℤ)) → AllByRecursion (OnSides box) xs → is_left b box best ≡ true → best_after b best xs ≡ best
+stays : (b : Problem) (box : List Side) (best : Option Best) (xs : List (List ℤ)) → AllByRecursion (OnSides box) xs → is_pruned b box best ≡ true → best_after b best xs ≡ best
 stays b box best [] a e = refl
-stays b box best (x ∷ xs) a e = ap (λ o. best_after b o xs) (left_stays b box best x (on_lies box x a.0) e) ∙ stays b box best xs a.1 e
+stays b box best (x ∷ xs) a e = ap (λ o. best_after b o xs) (pruned_stays b box best x (on_lies box x a.0) e) ∙ stays b box best xs a.1 e
 
 -- a box may be left
-pub left_sound : (b : Problem) (box : List Side) (best : Option Best) → Filled box → is_left b box best ≡ true → best_after b best (box_points box) ≡ best
-left_sound b box best f e = stays b box best (box_points box) (listed_on box f) e
+pub pruned_sound : (b : Problem) (box : List Side) (best : Option Best) → Filled box → is_pruned b box best ≡ true → best_after b best (box_points box) ≡ best
+pruned_sound b box best f e = stays b box best (box_points box) (listed_on box f) e
 
--- the point of a box of single columns that isn't left is a new best one
-pub single_taken : (b : Problem) (box : List Side) (best : Option Best) → Filled box → Single box → is_left b box best ≡ false → best_after b best (box_points box) ≡ Some (priced b (corner box))
+-- the point of a box of single columns that isn't pruned is a new best one
+pub single_taken : (b : Problem) (box : List Side) (best : Option Best) → Filled box → Single box → is_pruned b box best ≡ false → best_after b best (box_points box) ≡ Some (priced b (corner box))
 single_taken b box best f s e =
     let lies = on_lies box (corner box) (corner_on box f) in
     let met = single_met (length b.rows) b.rows b.entries box (corner box) s lies (either_left (misses_one (length b.rows) b.rows b.entries box) (not (improves (least_value b box) best)) e) in
@@ -114,7 +115,7 @@ single_taken b box best f s e =
     not_not false h = absurd cc
 
 -- the search of a box goes on to the best after all its points
-go_on-best : (g : List Side → Progress → Progress) (b : Problem) (box : List Side) (o : Option Halves) (p : Progress) → halves box ≡ o → Filled box → is_left b box p.best ≡ false →
+go_on-best : (g : List Side → Progress → Progress) (b : Problem) (box : List Side) (o : Option Halves) (p : Progress) → halves box ≡ o → Filled box → is_pruned b box p.best ≡ false →
     ((h : Halves) → o ≡ Some h → ((q : Progress) → (g h.low q).best ≡ best_after b q.best (box_points h.low)) × ((q : Progress) → (g h.high q).best ≡ best_after b q.best (box_points h.high))) →
     (go_on g b box o (with_opened p)).best ≡ best_after b p.best (box_points box)
 go_on-best g b box None p e f l h = sym (single_taken b box p.best f (single_of box f e) l)
@@ -128,16 +129,16 @@ go_on-best g b box (Some c) p e f l h =
 within_best : (n : ℕ) (b : Problem) (box : List Side) (p : Progress) → Filled box → width box < n → (search_within n b box p).best ≡ best_after b p.best (box_points box)
 unfolding search_within
 within_best zero b box p f w = absurd (omega arith)
-within_best (suc n) b box p f w = by_test (is_left b box p.best) refl
+within_best (suc n) b box p f w = by_test (is_pruned b box p.best) refl
     (λ l. go_on-best (λ half q. search_within n b half q) b box (halves box) p refl f l
     (λ c e. let cut = cut_of box c e in let k = narrower cut in let g = filled_cut cut f in (
       λ q. within_best n b c.low q g.0 (omega (arith, k.0)),
       λ q. within_best n b c.high q g.1 (omega (arith, k.1)),
     )))
   where
-    by_test : (t : Bool) → is_left b box p.best ≡ t → (is_left b box p.best ≡ false → (go_on (λ half q. search_within n b half q) b box (halves box) (with_opened p)).best ≡ best_after b p.best (box_points box)) →
+    by_test : (t : Bool) → is_pruned b box p.best ≡ t → (is_pruned b box p.best ≡ false → (go_on (λ half q. search_within n b half q) b box (halves box) (with_opened p)).best ≡ best_after b p.best (box_points box)) →
         (if t then with_opened p else go_on (λ half q. search_within n b half q) b box (halves box) (with_opened p)).best ≡ best_after b p.best (box_points box)
-    by_test true e r = sym (left_sound b box p.best f e)
+    by_test true e r = sym (pruned_sound b box p.best f e)
     by_test false e r = r e
 
 -- the search of a box finds the best of its points
@@ -157,7 +158,7 @@ within_opens : (n : ℕ) (b : Problem) (box : List Side) (p : Progress) → p.op
 unfolding search_within
 within_opens zero b box p = omega arith
 within_opens (suc n) b box p =
-    by_test (is_left b box p.best) (go_on-opens (λ half q. search_within n b half q) (λ half q. within_opens n b half q) b box (halves box) (with_opened p))
+    by_test (is_pruned b box p.best) (go_on-opens (λ half q. search_within n b half q) (λ half q. within_opens n b half q) b box (halves box) (with_opened p))
   where
     by_test : (t : Bool) → p.opened + 1 ≤ (go_on (λ half q. search_within n b half q) b box (halves box) (with_opened p)).opened →
         p.opened ≤ (if t then with_opened p else go_on (λ half q. search_within n b half q) b box (halves box) (with_opened p)).opened
@@ -171,7 +172,7 @@ search_opens b box p = within_opens (suc (width box)) b box p
 
 -- the search of a box opens at least this one
 pub search_opens_one : (b : Problem) (box : List Side) (p : Progress) → p.opened < (search b box p).opened
-search_opens_one b box p = omega (arith, ap (λ (q : Progress). q.opened) (search_step b box p), by_test (is_left b box p.best))
+search_opens_one b box p = omega (arith, ap (λ (q : Progress). q.opened) (search_step b box p), by_test (is_pruned b box p.best))
   where
     by_test : (t : Bool) → p.opened < (if t then with_opened p else go_on (search b) b box (halves box) (with_opened p)).opened
     by_test true = omega arith

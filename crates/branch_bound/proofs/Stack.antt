@@ -1,3 +1,4 @@
+-- Lists of boxes still to be opened.
 use Rattle.std.proofs.Common.{arith, refl, ap, ◌∙◌, ◌≡◌, ℕ, zero, suc, ◌<◌, List, [], ◌∷◌, ◌++◌, length, ◌≤ℤ◌, ◌<ℤ◌, Some, None, if◌then◌else◌}
 use Rattle.std.specs.List.{AllByRecursion}
 use Rattle.branch_bound.specs.Halves.{behind, halves, high_half, low_half}

@@ -1,3 +1,4 @@
+-- A box halved at its first column that isn't single.
 use Rattle.std.specs.Prelude.{List, [], ◌∷◌, ℤ, pos, ◌+ℤ◌, int_lt, Option, Some, None, if◌then◌else◌}
 use Rattle.std.specs.Int.{int_div_euclid}
 use Rattle.boxed_problem.specs.declared.parts.Side.{Side}

@@ -57,7 +57,8 @@ fn narrow_column(
     requires of { IsOf (problem_of problem.now) sparse.now }
     requires sparse { sparse.now ≡ trail.old.sparse.value }
     requires under { IsUnder (problem_of problem.now) reduced.now }
-    requires slack { IsSlack (problem_of problem.now) best.now reduced.now.scale (reduced_total reduced.now trail.old.sides) slack }
+    requires slack { IsSlack (problem_of problem.now) best.now reduced.now.scale
+        (reduced_total reduced.now trail.old.sides) slack }
     ensures { OnOk result (Narrows (problem_of problem.now) best.now trail.old trail.new) }
 {
     let _problem = problem;
@@ -86,7 +87,8 @@ pub fn narrow_by(
     requires sparse { sparse.now ≡ trail.old.sparse.value }
     requires under { IsUnder (problem_of problem.now) reduced.now }
     ensures narrows { OnOk result (Narrows (problem_of problem.now) best.now trail.old trail.new) }
-    ensures none { IfOk result (λ some. some ≡ false → NoneBelow (problem_of problem.now) best.now trail.new.sides) }
+    ensures none { IfOk result
+        (λ some. some ≡ false → NoneBelow (problem_of problem.now) best.now trail.new.sides) }
 {
     let Some(most) = most_below(problem, best, reduced.scale) else {
         return Ok(true);

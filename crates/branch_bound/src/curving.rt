@@ -10,7 +10,8 @@ use propagate::cut_above;
 pub fn column_cut(line: i128, square: i128, side: Side, slack: i128) -> Side
     requires wide { side.lower <ℤ side.upper }
     requires convex { pos 0 ≤ℤ square }
-    requires fits { unsigned_abs line * reach side + unsigned_abs square * (reach side * reach side) ≤ 2 ^ 125 }
+    requires fits { unsigned_abs line * reach side + unsigned_abs square * (reach side * reach side)
+        ≤ 2 ^ 125 }
     requires slack { pos 0 ≤ℤ slack }
     ensures { KeepsSlack line square side slack result }
 {

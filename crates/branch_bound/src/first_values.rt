@@ -45,7 +45,8 @@ fn open_either(
     requires of { IsOf (problem_of problem.now) sparse.now }
     requires sparse { sparse.now ≡ trail.old.sparse.value }
     requires chain { Chain 0 frames.old frame.mark }
-    requires frames { AllByRecursion (IsFrame (problem_of problem.now) best.old trail.old) frames.old }
+    requires frames { AllByRecursion (IsFrame (problem_of problem.now) best.old trail.old)
+        frames.old }
     requires found { IsFound (problem_of problem.now) best.old }
     requires pricing { IsPriced (problem_of problem.now) pricing.old }
     ensures pricing { OnOk result (IsPriced (problem_of problem.now) pricing.new) }

@@ -30,7 +30,7 @@ pub struct Place {
 }
 
 /// The side of a column.
-pub fn side_of(columns: &[Side], column: usize) -> Side
+pub fn side_at(columns: &[Side], column: usize) -> Side
     ensures { result ≡ side_at columns.now column }
 {
     if column < columns.len() {
@@ -47,7 +47,7 @@ pub fn root(columns: &[Side]) -> Frame
     Frame {
         mark: 0,
         column: 0,
-        half: side_of(columns, 0),
+        half: side_at(columns, 0),
     }
 }
 
@@ -99,8 +99,13 @@ fn go_back(trail: &mut Trail, sparse: &Sparse, mark: usize) -> Result<(), AllocE
 pub fn enter(trail: &mut Trail, sparse: &Sparse, frame: Frame) -> Result<(), AllocError>
     requires mark { frame.mark < length trail.old.marks }
     requires sparse { sparse.now ≡ trail.old.sparse.value }
-    requires side { frame.column < length (sides_at trail.old frame.mark) → IsInside (clip frame.half (side_at (sides_at trail.old frame.mark) frame.column)) (side_at (sides_at trail.old frame.mark) frame.column) }
-    ensures sides { OnOk result (trail.new.sides ≡ slice_set (sides_at trail.old frame.mark) frame.column (clip frame.half (side_at (sides_at trail.old frame.mark) frame.column))) }
+    requires side { frame.column < length (sides_at trail.old frame.mark) →
+        IsInside (clip frame.half (side_at (sides_at trail.old frame.mark) frame.column))
+        (side_at (sides_at trail.old frame.mark) frame.column) }
+    ensures sides { OnOk result
+        (trail.new.sides
+        ≡ slice_set (sides_at trail.old frame.mark) frame.column
+        (clip frame.half (side_at (sides_at trail.old frame.mark) frame.column))) }
     ensures marks { OnOk result (KeepsMarks (frame.mark + 1) trail.old trail.new) }
 {
     go_back(trail, sparse, frame.mark)?;
@@ -118,7 +123,10 @@ pub fn walk(columns: &[Side], sides: &[Side], column: usize, half: Side) -> Opti
     requires long { length sides.now ≡ length columns.now }
     requires single { SingleTo sides.now column }
     requires holds { Within sides.now (tree_box columns.now sides.now column half) }
-    ensures { MatchOption result (Descends sides.now (tree_box columns.now sides.now column half) sides.now × (halves sides.now ≡ None)) (λ place. IsReached columns.now sides.now (tree_box columns.now sides.now column half) place) }
+    ensures { MatchOption result
+        (Descends sides.now (tree_box columns.now sides.now column half) sides.now
+        × (halves sides.now ≡ None))
+        (λ place. IsReached columns.now sides.now (tree_box columns.now sides.now column half) place) }
 {
     let mut at = column;
     let mut side = half;
@@ -126,7 +134,7 @@ pub fn walk(columns: &[Side], sides: &[Side], column: usize, half: Side) -> Opti
         let inner = sides[at];
         if side.upper <= side.lower {
             at += 1;
-            side = side_of(columns, at);
+            side = side_at(columns, at);
         } else if inner.upper <= middle(side) {
             side = low_part(side);
         } else if middle(side) < inner.lower {
@@ -148,8 +156,10 @@ pub struct Pair {
 /// Halves a box at a place, with the sides at a mark.
 pub fn halve(mark: usize, place: Place) -> Pair
     requires { place.side.lower <ℤ place.side.upper }
-    ensures low { result.low ≡ record { mark = mark; column = place.column; half = low_half place.side } }
-    ensures high { result.high ≡ record { mark = mark; column = place.column; half = high_half place.side } }
+    ensures low { result.low
+        ≡ record { mark = mark; column = place.column; half = low_half place.side } }
+    ensures high { result.high
+        ≡ record { mark = mark; column = place.column; half = high_half place.side } }
 {
     let column = place.column;
     Pair {

@@ -7,7 +7,9 @@ use boxed_problem::Side;
 
 /// The first column that isn't single.
 pub fn first_wide(sides: &[Side]) -> Option<usize>
-    ensures { MatchOption result (halves sides.now ≡ None) (λ j. (j < length sides.now) × (halves sides.now ≡ Some (halves_at sides.now j)) × ((side_at sides.now j).lower <ℤ (side_at sides.now j).upper)) }
+    ensures { MatchOption result (halves sides.now ≡ None)
+        (λ j. (j < length sides.now) × (halves sides.now ≡ Some (halves_at sides.now j))
+        × ((side_at sides.now j).lower <ℤ (side_at sides.now j).upper)) }
 {
     for j in 0..sides.len() {
         if sides[j].lower < sides[j].upper {

@@ -8,11 +8,11 @@ mod fault;
 mod first_values;
 mod frames;
 mod halving;
-mod leaving;
 mod narrowing;
 mod pacing;
 mod plain_law;
 mod pricing;
+mod pruning;
 mod searching;
 mod stepping;
 #[cfg(test)]

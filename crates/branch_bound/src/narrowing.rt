@@ -24,7 +24,8 @@ fn narrow_by_rows(problem: &Boxed, sparse: &Sparse, trail: &mut Trail) -> Result
     requires sparse { sparse.now ≡ trail.old.sparse.value }
     ensures holds { HoldsSame (problem_of problem.now) trail.old.sides trail.new.sides }
     ensures marks { KeepsAllMarks trail.old trail.new }
-    ensures none { IfOk result (λ some. some ≡ false → HoldsNone (problem_of problem.now) trail.old.sides) }
+    ensures none { IfOk result
+        (λ some. some ≡ false → HoldsNone (problem_of problem.now) trail.old.sides) }
 {
     match tighten_on(trail, problem, sparse) {
         Ok(()) => Ok(true),
@@ -46,7 +47,8 @@ fn narrow_by_prices(
     requires sparse { sparse.now ≡ trail.old.sparse.value }
     requires pricing { IsPriced (problem_of problem.now) pricing.now }
     ensures narrows { OnOk result (Narrows (problem_of problem.now) best.now trail.old trail.new) }
-    ensures none { IfOk result (λ some. some ≡ false → NoneBelow (problem_of problem.now) best.now trail.new.sides) }
+    ensures none { IfOk result
+        (λ some. some ≡ false → NoneBelow (problem_of problem.now) best.now trail.new.sides) }
 {
     if !narrow_by(problem, sparse, &pricing.plain, best, trail)? {
         return Ok(false);
@@ -68,7 +70,8 @@ fn narrow(
     requires sparse { sparse.now ≡ trail.old.sparse.value }
     requires pricing { IsPriced (problem_of problem.now) pricing.now }
     ensures narrows { OnOk result (Narrows (problem_of problem.now) best.now trail.old trail.new) }
-    ensures none { IfOk result (λ some. some ≡ false → NoneBelow (problem_of problem.now) best.now trail.old.sides) }
+    ensures none { IfOk result
+        (λ some. some ≡ false → NoneBelow (problem_of problem.now) best.now trail.old.sides) }
 {
     for _ in 0..TURNS {
         if !narrow_by_rows(problem, sparse, trail)? {
@@ -98,7 +101,8 @@ fn narrow_again(
     requires pricing { IsPriced (problem_of problem.now) pricing.old }
     ensures pricing { OnOk result (IsPriced (problem_of problem.now) pricing.new) }
     ensures narrows { OnOk result (Narrows (problem_of problem.now) best.now trail.old trail.new) }
-    ensures none { IfOk result (λ some. some ≡ false → NoneBelow (problem_of problem.now) best.now trail.old.sides) }
+    ensures none { IfOk result
+        (λ some. some ≡ false → NoneBelow (problem_of problem.now) best.now trail.old.sides) }
 {
     raise_prices(problem, &trail.sides, pricing)?;
     let before = trail.changes.len();
@@ -123,7 +127,8 @@ pub fn narrow_priced(
     requires pricing { IsPriced (problem_of problem.now) pricing.old }
     ensures pricing { OnOk result (IsPriced (problem_of problem.now) pricing.new) }
     ensures narrows { OnOk result (Narrows (problem_of problem.now) best.now trail.old trail.new) }
-    ensures none { IfOk result (λ some. some ≡ false → NoneBelow (problem_of problem.now) best.now trail.old.sides) }
+    ensures none { IfOk result
+        (λ some. some ≡ false → NoneBelow (problem_of problem.now) best.now trail.old.sides) }
 {
     if !narrow(problem, sparse, pricing, best, trail)? {
         return Ok(false);

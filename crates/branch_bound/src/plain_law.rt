@@ -9,7 +9,8 @@ ghost use Rattle.branch_bound.specs.SmallExample.{small_of};
 /// reached. For every problem, box and progress the search of the box is that of
 /// the recursion without it, so `ref_count` counts the boxes of that recursion.
 pub fn plain_search_is_unbounded()
-    ensures { (b : Problem) → (box : List Side) → (p : Progress) → search b box p ≡ opened_then b box p }
+    ensures { (b : Problem) → (box : List Side) → (p : Progress) →
+        search b box p ≡ opened_then b box p }
 {}
 
 /// A law: on the two scenario problems of the worked example SMALL the plain

@@ -38,12 +38,22 @@ fn open(
     requires of { IsOf (problem_of problem.now) sparse.now }
     requires sparse { sparse.now ≡ trail.old.sparse.value }
     requires chain { Chain 0 frames.old frame.mark }
-    requires frames { AllByRecursion (IsFrame (problem_of problem.now) best.old trail.old) frames.old }
+    requires frames { AllByRecursion (IsFrame (problem_of problem.now) best.old trail.old)
+        frames.old }
     requires pricing { IsPriced (problem_of problem.now) pricing.old }
     ensures pricing { OnOk result (IsPriced (problem_of problem.now) pricing.new) }
     ensures same { OnOk result (trail.new.sparse.value ≡ trail.old.sparse.value) }
     ensures stack { OnOk result (IsStack (problem_of problem.now) best.new trail.new frames.new) }
-    ensures search { OnOk result ((n : ℕ) → NotPast (search_all (problem_of problem.now) (boxes_of problem.now.columns trail.new frames.new) (record { best = best.new; opened = n + 1 })) (search_all (problem_of problem.now) (boxes_of problem.now.columns trail.old frames.old) (search (problem_of problem.now) (box_of problem.now.columns trail.old frame) (record { best = best.old; opened = n })))) }
+    ensures search { OnOk result
+        ((n : ℕ) →
+        NotPast
+        (search_all (problem_of problem.now)
+        (boxes_of problem.now.columns trail.new frames.new)
+        (record { best = best.new; opened = n + 1 }))
+        (search_all (problem_of problem.now)
+        (boxes_of problem.now.columns trail.old frames.old)
+        (search (problem_of problem.now) (box_of problem.now.columns trail.old frame)
+        (record { best = best.old; opened = n })))) }
 {
     let Some(place) = step(alloc, problem, sparse, pricing, frame, best, trail)? else {
         return Ok(());

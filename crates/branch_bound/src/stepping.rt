@@ -1,7 +1,7 @@
 ghost use Rattle.std.specs.Prelude.{◌≡◌, ◌+◌, ◌<◌, true, false, IfOk, OnOk, length};
 ghost use Rattle.boxed_problem.specs.Data.{problem_of};
 ghost use Rattle.boxed_problem.specs.Optimum.{priced};
-ghost use Rattle.branch_bound.specs.PlainSearch.{is_left};
+ghost use Rattle.branch_bound.specs.PlainSearch.{is_pruned};
 ghost use Rattle.boxed_problem.specs.Sides.{Within, corner};
 ghost use Rattle.branch_bound.specs.Bettering.{IsPriced};
 ghost use Rattle.branch_bound.specs.Frames.{IsFrame, IsRooted, IsStep, box_of, node_of};
@@ -10,9 +10,9 @@ ghost use Rattle.propagate.specs.SparseParts.{IsOf};
 ghost use Rattle.propagate.specs.Trails.{KeepsMarks, sides_at};
 
 use crate::frames::{Frame, Place, enter, walk};
-use crate::leaving::is_left;
 use crate::narrowing::narrow_priced;
 use crate::pricing::Pricing;
+use crate::pruning::is_pruned;
 use boxed_problem::{Best, Boxed, Side, first_point};
 use propagate::{Sparse, Trail, trail_of};
 use std::alloc::{AllocError, Global};
@@ -40,7 +40,7 @@ fn only_point(alloc: Global, problem: &Boxed, sides: &List<Side>) -> Result<Best
 }
 
 /// Goes to the box of a frame, and narrows its sides. It answers false where
-/// the box is left.
+/// the box is pruned.
 fn reach(
     problem: &Boxed,
     sparse: &Sparse,
@@ -56,16 +56,24 @@ fn reach(
     requires pricing { IsPriced (problem_of problem.now) pricing.old }
     ensures pricing { OnOk result (IsPriced (problem_of problem.now) pricing.new) }
     ensures marks { OnOk result (KeepsMarks (frame.mark + 1) trail.old trail.new) }
-    ensures within { OnOk result (Within trail.new.sides (node_of problem.now.columns (sides_at trail.old frame.mark) frame).sides) }
-    ensures keeps { OnOk result (KeepsBetter (problem_of problem.now) best.now (node_of problem.now.columns (sides_at trail.old frame.mark) frame).sides trail.new.sides) }
-    ensures left { IfOk result (λ on. on ≡ false → NoneBelow (problem_of problem.now) best.now (box_of problem.now.columns trail.old frame)) }
-    ensures on { IfOk result (λ on. on ≡ true → is_left (problem_of problem.now) trail.new.sides best.now ≡ false) }
+    ensures within { OnOk result
+        (Within trail.new.sides
+        (node_of problem.now.columns (sides_at trail.old frame.mark) frame).sides) }
+    ensures keeps { OnOk result
+        (KeepsBetter (problem_of problem.now) best.now
+        (node_of problem.now.columns (sides_at trail.old frame.mark) frame).sides
+        trail.new.sides) }
+    ensures pruned { IfOk result
+        (λ on. on ≡ false →
+        NoneBelow (problem_of problem.now) best.now (box_of problem.now.columns trail.old frame)) }
+    ensures on { IfOk result
+        (λ on. on ≡ true → is_pruned (problem_of problem.now) trail.new.sides best.now ≡ false) }
 {
     enter(trail, sparse, frame)?;
     if !narrow_priced(problem, sparse, pricing, best, trail)? {
         return Ok(false);
     }
-    Ok(!is_left(problem, sparse, trail, best))
+    Ok(!is_pruned(problem, sparse, trail, best))
 }
 
 /// Opens the box of a frame: leaves it, or takes the only point that its sides
@@ -87,8 +95,11 @@ pub fn step(
     ensures pricing { OnOk result (IsPriced (problem_of problem.now) pricing.new) }
     ensures marks { OnOk result (KeepsMarks (frame.mark + 1) trail.old trail.new) }
     ensures falls { OnOk result (Falls best.old best.new) }
-    ensures found { OnOk result (IsFound (problem_of problem.now) best.old → IsFound (problem_of problem.now) best.new) }
-    ensures step { IfOk result (λ place. IsStep (problem_of problem.now) best.old best.new (box_of problem.now.columns trail.old frame) trail.new.sides place) }
+    ensures found { OnOk result
+        (IsFound (problem_of problem.now) best.old → IsFound (problem_of problem.now) best.new) }
+    ensures step { IfOk result
+        (λ place. IsStep (problem_of problem.now) best.old best.new
+        (box_of problem.now.columns trail.old frame) trail.new.sides place) }
 {
     if !reach(problem, sparse, pricing, best, trail, frame)? {
         return Ok(None);

@@ -61,7 +61,8 @@ fn bound_for(
     value: BoundValue,
 ) -> Result<Bound, CoreKind>
     requires { HasGoodPlaces value }
-    ensures exact { Passes (value_place_fault bounds.now.bounds kind column value) result (λ bound. bound_for (Some kind) (Some column) value ≡ bound ∷ []) }
+    ensures exact { Passes (value_place_fault bounds.now.bounds kind column value) result
+        (λ bound. bound_for (Some kind) (Some column) value ≡ bound ∷ []) }
     ensures small { IfOk result AreEndsSmall }
 {
     if is_bad(kind, value, is_lowered(bounds, column)) {
@@ -120,7 +121,9 @@ fn bound_of(
     bounds: &BoundPart,
     line: &FileLine<'_>,
 ) -> Result<Option<Bound>, CoreKind>
-    ensures exact { Passes (bound_fault names.now (bounds_in_part bounds.now) (text_of line.now)) result (λ bound. option_to_list bound ≡ bounds_in names.now bounds.now.set (text_of line.now)) }
+    ensures exact { Passes (bound_fault names.now (bounds_in_part bounds.now) (text_of line.now))
+        result
+        (λ bound. option_to_list bound ≡ bounds_in names.now bounds.now.set (text_of line.now)) }
     ensures small { IfOk result (λ bound. IfSome bound AreEndsSmall) }
 {
     let Some(kind) = bound_kind_named(line.field(0)) else {
@@ -175,7 +178,8 @@ fn push_bound(bounds: &mut BoundPart, bound: Bound, flag: bool) -> Result<(), St
     requires place { bound.column < length bounds.old.flags }
     requires small { AreEndsSmall bound }
     requires flag { flag ≡ (is_lowered bounds.old.bounds bound.column || bound.speaks_low) }
-    ensures { Keeps result ((bounds.new.set ≡ bounds.old.set) × (bounds.new.bounds ≡ bounds.old.bounds ++ bound ∷ [])) }
+    ensures { Keeps result
+        ((bounds.new.set ≡ bounds.old.set) × (bounds.new.bounds ≡ bounds.old.bounds ++ bound ∷ [])) }
 {
     match bounds.bounds.push(bound) {
         Ok(()) => {
@@ -189,7 +193,8 @@ fn push_bound(bounds: &mut BoundPart, bound: Bound, flag: bool) -> Result<(), St
 // Appends a bound.
 fn add_bound(bounds: &mut BoundPart, bound: Bound) -> Result<(), Stop>
     requires { AreEndsSmall bound }
-    ensures { Keeps result ((bounds.new.set ≡ bounds.old.set) × (bounds.new.bounds ≡ bounds.old.bounds ++ bound ∷ [])) }
+    ensures { Keeps result
+        ((bounds.new.set ≡ bounds.old.set) × (bounds.new.bounds ≡ bounds.old.bounds ++ bound ∷ [])) }
 {
     let flag = flag_with(bounds, bound);
     grow_for(bounds, bound.column)?;
@@ -198,7 +203,9 @@ fn add_bound(bounds: &mut BoundPart, bound: Bound) -> Result<(), Stop>
 
 // Makes the set of a line the used one, where it is the first.
 fn use_set_of(alloc: Global, bounds: &mut BoundPart, line: &FileLine<'_>) -> Result<(), Stop>
-    ensures { Keeps result ((bounds.new.set ≡ (bounds.old.set or Some (bound_set (text_of line.now)))) × (bounds.new.bounds ≡ bounds.old.bounds)) }
+    ensures { Keeps result
+        ((bounds.new.set ≡ (bounds.old.set or Some (bound_set (text_of line.now))))
+        × (bounds.new.bounds ≡ bounds.old.bounds)) }
 {
     match bound_kind_named(line.field(0)) {
         Some(kind) => use_set(alloc, &mut bounds.set, bound_set(kind, line)),
@@ -213,7 +220,9 @@ pub fn take_bound(
     bounds: &mut BoundPart,
     line: &FileLine<'_>,
 ) -> Result<(), Stop>
-    ensures { Takes (bound_fault names.now (bounds_in_part bounds.old) (text_of line.now)) result (bounds_in_part bounds.new ≡ bounds_next true names.now (bounds_in_part bounds.old) (text_of line.now)) }
+    ensures { Takes (bound_fault names.now (bounds_in_part bounds.old) (text_of line.now)) result
+        (bounds_in_part bounds.new
+        ≡ bounds_next true names.now (bounds_in_part bounds.old) (text_of line.now)) }
 {
     match bound_of(names, bounds, line) {
         Ok(bound) => {

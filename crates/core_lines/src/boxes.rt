@@ -19,7 +19,8 @@ fn filled(alloc: Global, count: usize, end: Option<i64>) -> Result<List<Option<i
 
 // Puts what a line says of an end in its place.
 fn put_end(ends: &mut List<Option<i64>>, column: u32, change: EndChange)
-    ensures { ends.new ≡ (if speaks change then slice_set ends.old column (end_said change) else ends.old) }
+    ensures { ends.new
+        ≡ (if speaks change then slice_set ends.old column (end_said change) else ends.old) }
 {
     if column as usize >= ends.len() {
         return;
@@ -42,7 +43,8 @@ pub fn lowers_of(
     count: usize,
 ) -> Result<List<Option<i64>>, AllocError>
     ensures counted { IfOk result (λ ends. length ends ≡ count) }
-    ensures each { IfOk result (λ ends. (j : ℕ) → j < count → slice_index_or ends j None ≡ lower_of bounds.now j) }
+    ensures each { IfOk result
+        (λ ends. (j : ℕ) → j < count → slice_index_or ends j None ≡ lower_of bounds.now j) }
 {
     let mut ends = filled(alloc, count, Some(0))?;
     for bound in bounds {
@@ -58,7 +60,8 @@ pub fn uppers_of(
     count: usize,
 ) -> Result<List<Option<i64>>, AllocError>
     ensures counted { IfOk result (λ ends. length ends ≡ count) }
-    ensures each { IfOk result (λ ends. (j : ℕ) → j < count → slice_index_or ends j None ≡ upper_of bounds.now j) }
+    ensures each { IfOk result
+        (λ ends. (j : ℕ) → j < count → slice_index_or ends j None ≡ upper_of bounds.now j) }
 {
     let mut ends = filled(alloc, count, None)?;
     for bound in bounds {
@@ -80,7 +83,9 @@ fn is_empty_box(lower: Option<i64>, upper: Option<i64>) -> bool
 // Whether one of the boxes between these ends is empty.
 fn is_one_empty(lowers: &[Option<i64>], uppers: &[Option<i64>]) -> bool
     requires { length uppers.now ≡ length lowers.now }
-    ensures { result ≡ any_below (length lowers.now) (λ j. is_empty_box (slice_index_or lowers.now j None) (slice_index_or uppers.now j None)) }
+    ensures { result
+        ≡ any_below (length lowers.now)
+        (λ j. is_empty_box (slice_index_or lowers.now j None) (slice_index_or uppers.now j None)) }
 {
     for j in 0..lowers.len() {
         if is_empty_box(lowers[j], uppers[j]) {
@@ -93,7 +98,9 @@ fn is_one_empty(lowers: &[Option<i64>], uppers: &[Option<i64>]) -> bool
 // The same of two lists.
 fn is_pair_empty(lowers: &List<Option<i64>>, uppers: &List<Option<i64>>) -> bool
     requires { length uppers.now ≡ length lowers.now }
-    ensures { result ≡ any_below (length lowers.now) (λ j. is_empty_box (slice_index_or lowers.now j None) (slice_index_or uppers.now j None)) }
+    ensures { result
+        ≡ any_below (length lowers.now)
+        (λ j. is_empty_box (slice_index_or lowers.now j None) (slice_index_or uppers.now j None)) }
 {
     is_one_empty(lowers.as_slice(), uppers.as_slice())
 }

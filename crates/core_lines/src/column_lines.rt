@@ -16,8 +16,7 @@ use crate::growing::grow_marks;
 use crate::kinds::{CoreKind, Stop};
 use crate::pairs::{RowPair, is_same_place, pair_of};
 use crate::parts::{ColumnPart, RowPart};
-use crate::words::same;
-use smps_words::FileLine;
+use smps_words::{FileLine, same};
 
 /// The greatest number of columns.
 const MAX_COLUMNS: usize = 5000;
@@ -41,7 +40,8 @@ pub fn is_marker(line: &FileLine<'_>) -> bool
 
 // Whether a marker begins the integer columns.
 fn marks_integer(line: &FileLine<'_>) -> Result<bool, CoreKind>
-    ensures { Passes (marker_fault (text_of line.now)) result (λ begins. begins ≡ bytes_eq (field 2 (text_of line.now)) begin_word) }
+    ensures { Passes (marker_fault (text_of line.now)) result
+        (λ begins. begins ≡ bytes_eq (field 2 (text_of line.now)) begin_word) }
 {
     if line.count() != 3 {
         return Err(CoreKind::Fields);
@@ -69,9 +69,12 @@ fn has_cell(columns: &ColumnPart, row: Option<u32>, column: u32) -> bool
 
 // The second pair of a line, if it has one.
 fn second_of(rows: &RowPart, line: &FileLine<'_>) -> Result<Option<RowPair>, CoreKind>
-    ensures exact { Passes (if has_second (text_of line.now) then pair_fault (rows_in rows.now) 3 (text_of line.now) else None) result (λ pair. pair ≡ second_at (rows_in rows.now) (text_of line.now)) }
+    ensures exact { Passes
+        (if has_second (text_of line.now) then pair_fault (rows_in rows.now) 3 (text_of line.now)
+        else None) result (λ pair. pair ≡ second_at (rows_in rows.now) (text_of line.now)) }
     ensures short { IfOk result (λ pair. IfSome pair (λ p. IsShort p.value)) }
-    ensures placed { IfOk result (λ pair. IfSome pair (λ p. IfSome p.row (λ row. row ≤ length rows.now.names))) }
+    ensures placed { IfOk result
+        (λ pair. IfSome pair (λ p. IfSome p.row (λ row. row ≤ length rows.now.names))) }
 {
     if line.count() != 5 {
         return Ok(None);
@@ -116,7 +119,10 @@ fn column_line_of(
     columns: &ColumnPart,
     line: &FileLine<'_>,
 ) -> Result<ColumnLine, CoreKind>
-    ensures exact { Passes (pairs_fault (rows_in rows.now) (columns_in columns.now) (text_of line.now)) result (λ parsed. IsColumnLine (rows_in rows.now) (columns_in columns.now) (text_of line.now) parsed) }
+    ensures exact { Passes
+        (pairs_fault (rows_in rows.now) (columns_in columns.now) (text_of line.now)) result
+        (λ parsed. IsColumnLine (rows_in rows.now) (columns_in columns.now) (text_of line.now)
+        parsed) }
     ensures can { IfOk result (CanTake (columns_in columns.now)) }
     ensures short { IfOk result ArePairsShort }
     ensures placed { IfOk result (ArePairsPlaced (length rows.now.names)) }
@@ -163,7 +169,9 @@ fn push_cell(columns: &mut ColumnPart, cell: Cell) -> Result<(), Stop>
     requires last { cell.column + 1 ≡ length columns.old.names }
     requires fresh { list_any (is_cell_of cell.row cell.column) columns.old.cells ≡ false }
     requires short { IsShort cell.value }
-    ensures { Keeps result (columns_in columns.new ≡ with_cells (columns_in columns.old) (columns.old.cells ++ cell ∷ [])) }
+    ensures { Keeps result
+        (columns_in columns.new
+        ≡ with_cells (columns_in columns.old) (columns.old.cells ++ cell ∷ [])) }
 {
     match columns.cells.push(cell) {
         Ok(()) => {
@@ -179,7 +187,9 @@ fn add_cell(columns: &mut ColumnPart, cell: Cell) -> Result<(), Stop>
     requires last { cell.column + 1 ≡ length columns.old.names }
     requires fresh { list_any (is_cell_of cell.row cell.column) columns.old.cells ≡ false }
     requires short { IsShort cell.value }
-    ensures { Keeps result (columns_in columns.new ≡ with_cells (columns_in columns.old) (columns.old.cells ++ cell ∷ [])) }
+    ensures { Keeps result
+        (columns_in columns.new
+        ≡ with_cells (columns_in columns.old) (columns.old.cells ++ cell ∷ [])) }
 {
     grow_for(columns, cell.row)?;
     push_cell(columns, cell)
@@ -190,7 +200,10 @@ fn add_pair(columns: &mut ColumnPart, column: u32, pair: RowPair, number: u64) -
     requires last { column + 1 ≡ length columns.old.names }
     requires fresh { has_cell columns.old.cells pair.row column ≡ false }
     requires short { IsShort pair.value }
-    ensures { Keeps result (columns_in columns.new ≡ with_cells (columns_in columns.old) (columns.old.cells ++ cell_for pair.row column pair.value number)) }
+    ensures { Keeps result
+        (columns_in columns.new
+        ≡ with_cells (columns_in columns.old)
+        (columns.old.cells ++ cell_for pair.row column pair.value number)) }
 {
     let Some(row) = pair.row else {
         return Ok(());
@@ -232,9 +245,13 @@ fn take_parts(
     line: &FileLine<'_>,
 ) -> Result<(), Stop>
     requires can { CanTake (columns_in columns.old) parsed.now }
-    requires begins { parsed.now.begins ≡ is_none (number_of (field 0 (text_of line.now)) columns.old.names) }
+    requires begins { parsed.now.begins
+        ≡ is_none (number_of (field 0 (text_of line.now)) columns.old.names) }
     requires short { ArePairsShort parsed.now }
-    ensures { Keeps result (columns_in columns.new ≡ taken (columns_in columns.old) (field 0 (text_of line.now)) parsed.now (text_of line.now).number) }
+    ensures { Keeps result
+        (columns_in columns.new
+        ≡ taken (columns_in columns.old) (field 0 (text_of line.now)) parsed.now
+        (text_of line.now).number) }
 {
     begin_column(columns, parsed.begins, line.field(0))?;
     add_pair(columns, parsed.column, parsed.first, line.line.number)?;
@@ -247,7 +264,10 @@ fn take_parts(
 // Takes up a marker, or answers its fault.
 fn take_marker(columns: &mut ColumnPart, line: &FileLine<'_>) -> Result<(), Stop>
     requires { is_marker (text_of line.now) ≡ true }
-    ensures { (rows : RowsSaid) → Takes (column_fault rows (columns_in columns.old) (text_of line.now)) result (columns_in columns.new ≡ columns_next true rows (columns_in columns.old) (text_of line.now)) }
+    ensures { (rows : RowsSaid) →
+        Takes (column_fault rows (columns_in columns.old) (text_of line.now)) result
+        (columns_in columns.new
+        ≡ columns_next true rows (columns_in columns.old) (text_of line.now)) }
 {
     match marks_integer(line) {
         Ok(begins) => {
@@ -265,7 +285,10 @@ pub fn take_column(
     columns: &mut ColumnPart,
     line: &FileLine<'_>,
 ) -> Result<(), Stop>
-    ensures taken { Takes (column_fault (rows_in rows.now) (columns_in columns.old) (text_of line.now)) result (columns_in columns.new ≡ columns_next true (rows_in rows.now) (columns_in columns.old) (text_of line.now)) }
+    ensures taken { Takes
+        (column_fault (rows_in rows.now) (columns_in columns.old) (text_of line.now)) result
+        (columns_in columns.new
+        ≡ columns_next true (rows_in rows.now) (columns_in columns.old) (text_of line.now)) }
 {
     if is_marker(line) {
         return take_marker(columns, line);

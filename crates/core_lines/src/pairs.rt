@@ -24,7 +24,8 @@ pub struct RowPair {
 
 /// The number of a field.
 pub fn number_of_text(text: &[u8]) -> Result<Decimal, CoreKind>
-    ensures exact { Passes (number_fault kind_of_number text.now) result (λ value. value ≡ number_in text.now) }
+    ensures exact { Passes (number_fault kind_of_number text.now) result
+        (λ value. value ≡ number_in text.now) }
     ensures short { IfOk result (λ value. IsShort value) }
 {
     match read(text) {
@@ -36,7 +37,8 @@ pub fn number_of_text(text: &[u8]) -> Result<Decimal, CoreKind>
 /// The pair at field `k` of a line.
 pub fn pair_of(rows: &RowPart, line: &FileLine<'_>, k: usize) -> Result<RowPair, CoreKind>
     requires { k < 2 ^ 32 }
-    ensures exact { Passes (pair_fault (rows_in rows.now) k (text_of line.now)) result (λ pair. pair ≡ pair_at (rows_in rows.now) k (text_of line.now)) }
+    ensures exact { Passes (pair_fault (rows_in rows.now) k (text_of line.now)) result
+        (λ pair. pair ≡ pair_at (rows_in rows.now) k (text_of line.now)) }
     ensures short { IfOk result (λ pair. IsShort pair.value) }
     ensures placed { IfOk result (λ pair. IfSome pair.row (λ row. row ≤ length rows.now.names)) }
 {

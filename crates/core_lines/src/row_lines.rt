@@ -40,7 +40,9 @@ pub fn row_named(rows: &RowPart, name: &[u8]) -> Option<Option<u32>>
 
 // The kind of the row of a line without a fault, none for N.
 fn row_kind_of(rows: &RowPart, line: &FileLine<'_>) -> Result<Option<RowKind>, CoreKind>
-    ensures { Passes (row_fault (rows_in rows.now) (text_of line.now)) result (λ kind. (row_kind_named (field 0 (text_of line.now)) ≡ Some kind) × OnSome kind (length rows.now.names < max_rows)) }
+    ensures { Passes (row_fault (rows_in rows.now) (text_of line.now)) result
+        (λ kind. (row_kind_named (field 0 (text_of line.now)) ≡ Some kind)
+        × OnSome kind (length rows.now.names < max_rows)) }
 {
     if line.count() != 2 {
         return Err(CoreKind::Fields);
@@ -59,7 +61,9 @@ fn row_kind_of(rows: &RowPart, line: &FileLine<'_>) -> Result<Option<RowKind>, C
 
 fn add_row(rows: &mut RowPart, kind: RowKind, name: &[u8]) -> Result<(), Stop>
     requires { length rows.old.names < max_rows }
-    ensures { Keeps result ((rows.new.names ≡ rows.old.names ++ name.now ∷ []) × (rows.new.kinds ≡ rows.old.kinds ++ kind ∷ []) × (rows.new.frees ≡ rows.old.frees)) }
+    ensures { Keeps result
+        ((rows.new.names ≡ rows.old.names ++ name.now ∷ [])
+        × (rows.new.kinds ≡ rows.old.kinds ++ kind ∷ []) × (rows.new.frees ≡ rows.old.frees)) }
 {
     if rows.kinds.push(kind).is_err() {
         return Err(Stop::Memory);
@@ -71,7 +75,9 @@ fn add_row(rows: &mut RowPart, kind: RowKind, name: &[u8]) -> Result<(), Stop>
 }
 
 fn add_free(rows: &mut RowPart, name: &[u8]) -> Result<(), Stop>
-    ensures { Keeps result ((rows.new.names ≡ rows.old.names) × (rows.new.kinds ≡ rows.old.kinds) × (rows.new.frees ≡ rows.old.frees ++ name.now ∷ [])) }
+    ensures { Keeps result
+        ((rows.new.names ≡ rows.old.names) × (rows.new.kinds ≡ rows.old.kinds)
+        × (rows.new.frees ≡ rows.old.frees ++ name.now ∷ [])) }
 {
     if rows.frees.len() >= MAX_NAMES {
         return Err(Stop::Memory);
@@ -84,7 +90,8 @@ fn add_free(rows: &mut RowPart, name: &[u8]) -> Result<(), Stop>
 
 /// Takes up a line of ROWS, or answers its fault.
 pub fn take_row(rows: &mut RowPart, line: &FileLine<'_>) -> Result<(), Stop>
-    ensures { Takes (row_fault (rows_in rows.old) (text_of line.now)) result (rows_in rows.new ≡ rows_next true (rows_in rows.old) (text_of line.now)) }
+    ensures { Takes (row_fault (rows_in rows.old) (text_of line.now)) result
+        (rows_in rows.new ≡ rows_next true (rows_in rows.old) (text_of line.now)) }
 {
     match row_kind_of(rows, line) {
         Ok(Some(kind)) => add_row(rows, kind, line.field(1)),

@@ -4,7 +4,7 @@ ghost use Rattle.core_lines.specs.SideLines.{is_used};
 ghost use Rattle.core_lines.specs.States.{Keeps};
 
 use crate::kinds::Stop;
-use crate::words::same;
+use smps_words::same;
 use std::alloc::Global;
 use wide_num::{List, Text};
 

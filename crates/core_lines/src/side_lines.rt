@@ -52,7 +52,10 @@ fn first_pair(line: &FileLine<'_>) -> usize
 
 // The second pair of a line, if it has one.
 fn second_of(rows: &RowPart, line: &FileLine<'_>) -> Result<Option<RowPair>, CoreKind>
-    ensures exact { Passes (if has_two_pairs (text_of line.now) then pair_fault (rows_in rows.now) (first_pair (text_of line.now) + 2) (text_of line.now) else None) result (λ pair. pair ≡ next_at (rows_in rows.now) (text_of line.now)) }
+    ensures exact { Passes
+        (if has_two_pairs (text_of line.now) then pair_fault (rows_in rows.now)
+        (first_pair (text_of line.now) + 2) (text_of line.now) else None) result
+        (λ pair. pair ≡ next_at (rows_in rows.now) (text_of line.now)) }
     ensures short { IfOk result (λ pair. IfSome pair (λ p. IsShort p.value)) }
 {
     if line.count() < 4 {
@@ -94,7 +97,9 @@ fn repeats(sides: &SidePart, parsed: &SideLine) -> bool
 
 // The pairs of a line of the used set without a fault in them.
 fn side_line_of(rows: &RowPart, sides: &SidePart, line: &FileLine<'_>) -> Result<SideLine, CoreKind>
-    ensures exact { Passes (used_fault (rows_in rows.now) (sides_in_part sides.now) (text_of line.now)) result (λ parsed. IsSideLine (rows_in rows.now) (text_of line.now) parsed) }
+    ensures exact { Passes
+        (used_fault (rows_in rows.now) (sides_in_part sides.now) (text_of line.now)) result
+        (λ parsed. IsSideLine (rows_in rows.now) (text_of line.now) parsed) }
     ensures fresh { IfOk result (λ parsed. repeats_sides sides.now.values parsed ≡ false) }
     ensures short { IfOk result AreSidesShort }
 {
@@ -141,7 +146,8 @@ fn grow_for(sides: &mut SidePart, row: u32) -> Result<(), Stop>
 fn push_side(sides: &mut SidePart, value: RowValue) -> Result<(), Stop>
     requires place { value.row < length sides.old.flags }
     requires short { IsShort value.value }
-    ensures { Keeps result ((sides.new.set ≡ sides.old.set) × (sides.new.values ≡ sides.old.values ++ value ∷ [])) }
+    ensures { Keeps result
+        ((sides.new.set ≡ sides.old.set) × (sides.new.values ≡ sides.old.values ++ value ∷ [])) }
 {
     match sides.values.push(value) {
         Ok(()) => {
@@ -155,7 +161,9 @@ fn push_side(sides: &mut SidePart, value: RowValue) -> Result<(), Stop>
 // Appends the value of a pair, unless its row is ignored.
 fn add_pair(sides: &mut SidePart, pair: RowPair) -> Result<(), Stop>
     requires { IsShort pair.value }
-    ensures { Keeps result ((sides.new.set ≡ sides.old.set) × (sides.new.values ≡ sides.old.values ++ side_for pair.row pair.value)) }
+    ensures { Keeps result
+        ((sides.new.set ≡ sides.old.set)
+        × (sides.new.values ≡ sides.old.values ++ side_for pair.row pair.value)) }
 {
     let Some(row) = pair.row else {
         return Ok(());
@@ -173,7 +181,9 @@ fn add_pair(sides: &mut SidePart, pair: RowPair) -> Result<(), Stop>
 // Takes up the pairs of a line of the used set.
 fn take_pairs(sides: &mut SidePart, parsed: &SideLine) -> Result<(), Stop>
     requires { AreSidesShort parsed.now }
-    ensures { Keeps result ((sides.new.set ≡ sides.old.set) × (sides.new.values ≡ sides.old.values ++ sides_of_parts parsed.now)) }
+    ensures { Keeps result
+        ((sides.new.set ≡ sides.old.set)
+        × (sides.new.values ≡ sides.old.values ++ sides_of_parts parsed.now)) }
 {
     add_pair(sides, parsed.first)?;
     match parsed.second {
@@ -189,7 +199,12 @@ fn take_used(
     sides: &mut SidePart,
     line: &FileLine<'_>,
 ) -> Result<(), Stop>
-    ensures { Takes (used_fault (rows_in rows.now) (sides_in_part sides.old) (text_of line.now)) result ((sides.new.set ≡ (sides.old.set or Some (set_name (text_of line.now)))) × (sides.new.values ≡ sides.old.values ++ pair_sides (rows_in rows.now) (text_of line.now))) }
+    ensures { Takes (used_fault (rows_in rows.now) (sides_in_part sides.old) (text_of line.now))
+        result
+        ((sides.new.set ≡ (sides.old.set or Some (set_name (text_of line.now))))
+        ×
+        (sides.new.values
+        ≡ sides.old.values ++ pair_sides (rows_in rows.now) (text_of line.now))) }
 {
     match side_line_of(rows, sides, line) {
         Ok(parsed) => {
@@ -207,7 +222,10 @@ pub fn take_side(
     sides: &mut SidePart,
     line: &FileLine<'_>,
 ) -> Result<(), Stop>
-    ensures { Takes (side_fault (rows_in rows.now) (sides_in_part sides.old) (text_of line.now)) result (sides_in_part sides.new ≡ sides_next true (rows_in rows.now) (sides_in_part sides.old) (text_of line.now)) }
+    ensures { Takes (side_fault (rows_in rows.now) (sides_in_part sides.old) (text_of line.now))
+        result
+        (sides_in_part sides.new
+        ≡ sides_next true (rows_in rows.now) (sides_in_part sides.old) (text_of line.now)) }
 {
     let count = line.count();
     if !(2 <= count && count <= 5) {

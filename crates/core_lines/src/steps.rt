@@ -21,7 +21,11 @@ use std::alloc::Global;
 
 // Whether a box is empty, at the header that ends the file.
 fn ends_badly(alloc: Global, state: &State, section: Section) -> Result<bool, Stop>
-    ensures { KeepsAs result (λ found. found ≡ (is_ending section && has_empty_box state.now.bounds.bounds (length state.now.columns.names))) }
+    ensures { KeepsAs result
+        (λ found. found
+        ≡
+        (is_ending section && has_empty_box state.now.bounds.bounds
+        (length state.now.columns.names))) }
 {
     if !matches!(section, Section::End) {
         return Ok(false);
@@ -38,7 +42,8 @@ fn ends_badly(alloc: Global, state: &State, section: Section) -> Result<bool, St
 
 // The section that a header without a fault begins.
 fn section_of(alloc: Global, state: &State, line: &FileLine<'_>) -> Result<Section, Stop>
-    ensures { TakesAs (header_fault (before_in state.now) (text_of line.now)) result (λ section. section ≡ section_of_word (text_of line.now)) }
+    ensures { TakesAs (header_fault (before_in state.now) (text_of line.now)) result
+        (λ section. section ≡ section_of_word (text_of line.now)) }
 {
     let section = section_named(line.field(0));
     if matches!(section, Section::Sense) {
@@ -75,7 +80,9 @@ fn headers_with(headers: Headers, section: Section) -> Headers
 // Takes up a header, or answers its fault. True for the one that ends the file.
 fn take_header(alloc: Global, state: &mut State, line: &FileLine<'_>) -> Result<bool, Stop>
     requires { (text_of line.now).header ≡ true }
-    ensures { TakesAs (line_fault (before_in state.old) (text_of line.now)) result (λ ended. (ended ≡ is_end (text_of line.now)) × (before_in state.new ≡ next (before_in state.old) (text_of line.now))) }
+    ensures { TakesAs (line_fault (before_in state.old) (text_of line.now)) result
+        (λ ended. (ended ≡ is_end (text_of line.now))
+        × (before_in state.new ≡ next (before_in state.old) (text_of line.now))) }
 {
     match section_of(alloc, state, line) {
         Ok(section) => {
@@ -89,7 +96,8 @@ fn take_header(alloc: Global, state: &mut State, line: &FileLine<'_>) -> Result<
 // Takes up a data line, or answers its fault.
 fn take_data(alloc: Global, state: &mut State, line: &FileLine<'_>) -> Result<(), Stop>
     requires { (text_of line.now).header ≡ false }
-    ensures { Takes (line_fault (before_in state.old) (text_of line.now)) result (before_in state.new ≡ next (before_in state.old) (text_of line.now)) }
+    ensures { Takes (line_fault (before_in state.old) (text_of line.now)) result
+        (before_in state.new ≡ next (before_in state.old) (text_of line.now)) }
 {
     let rows = &state.rows;
     match state.headers.section {

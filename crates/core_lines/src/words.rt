@@ -1,10 +1,9 @@
 ghost use Rattle.std.specs.Prelude.{◌≡◌};
-ghost use Rattle.std.specs.Str.{bytes_eq};
 ghost use Rattle.core_lines.specs.Words.{section_named, row_kind_named, bound_kind_named, kind_of_number};
 
 use crate::kinds::CoreKind;
 use dec_core::DecFault;
-use smps_words::RowKind;
+use smps_words::{RowKind, same};
 
 /// The sections of a core file, each begun by its header; `Start` before the
 /// first header, and `Other` for a word that is no header.
@@ -32,13 +31,6 @@ pub enum BoundKind {
     NoLower,
     NoUpper,
     Binary,
-}
-
-/// Whether two texts are the same.
-pub fn same(a: &[u8], b: &[u8]) -> bool
-    ensures { result ≡ bytes_eq a.now b.now }
-{
-    a == b
 }
 
 /// The section that a header's word begins.

@@ -24,7 +24,8 @@ pub fn frame(
     requires some { pos 1 ≤ℤ missing }
     requires most { missing ≤ℤ pos max_end }
     requires named { AreNamed core.now stoch.now }
-    ensures { IfOk result (λ frame. frame ≡ frame_of (joined core.now periods.now stoch.now missing)) }
+    ensures { IfOk result
+        (λ frame. frame ≡ frame_of (joined core.now periods.now stoch.now missing)) }
 {
     let sides = boxes(alloc, core.columns.as_slice(), missing)?;
     let entries = all_entries(alloc, stoch)?;

@@ -60,7 +60,8 @@ fn own_places(row: &CoreRow) -> u8
 
 // The places of each row's right-hand side and range.
 fn all_own_places(alloc: Global, rows: &[CoreRow]) -> Result<Vec<u8>, AllocError>
-    ensures { IfOk result (λ places. places.items ≡ map (λ row. common_places (own_numbers row)) rows.now) }
+    ensures { IfOk result
+        (λ places. places.items ≡ map (λ row. common_places (own_numbers row)) rows.now) }
 {
     let mut places = Vec::new(alloc);
     for row in rows {
@@ -83,7 +84,10 @@ fn raise(places: &mut Vec<u8>, row: Option<u32>, number: Decimal)
 // The places of each row in the core.
 fn core_places(alloc: Global, core: &Core, sides: &List<Side>) -> Result<Vec<u8>, AllocError>
     requires { length sides.now ≡ length core.now.columns }
-    ensures { IfOk result (λ places. places.items ≡ map (λ i. common_places (core_row_numbers (parts_of core.now) sides.now i)) (range_with_len 0 (length core.now.rows))) }
+    ensures { IfOk result
+        (λ places. places.items
+        ≡ map (λ i. common_places (core_row_numbers (parts_of core.now) sides.now i))
+        (range_with_len 0 (length core.now.rows))) }
 {
     let mut places = all_own_places(alloc, core.rows.as_slice())?;
     for entry in core.entries.as_slice() {
@@ -103,7 +107,10 @@ pub fn row_places(
     requires long { length sides.now ≡ length core.now.columns }
     requires named { All (λ (e : StochEntry). IsNamed sides.now e.place) entries.now }
     requires rows { All (λ (e : StochEntry). IsRowNamed (length core.now.rows) e.place) entries.now }
-    ensures { IfOk result (λ places. places ≡ map (row_places (parts_of core.now) sides.now entries.now) (range_with_len 0 (length core.now.rows))) }
+    ensures { IfOk result
+        (λ places. places
+        ≡ map (row_places (parts_of core.now) sides.now entries.now)
+        (range_with_len 0 (length core.now.rows))) }
 {
     let mut places = core_places(alloc, core, sides)?;
     for entry in entries {

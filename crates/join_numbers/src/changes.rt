@@ -105,8 +105,10 @@ fn push(
 ) -> Result<(), MakeFault>
     requires frame { IsFrameOf core.now frame.now }
     requires there { IsPlace core.now entry.now.place }
-    ensures ok { OnOk result (changes.new ≡ with_change changes.old (change_of (parts_of core.now) frame.now entry.now)) }
-    ensures err { IfErr result (ByUnfit (IsSomeLarge (change_of (parts_of core.now) frame.now entry.now))) }
+    ensures ok { OnOk result
+        (changes.new ≡ with_change changes.old (change_of (parts_of core.now) frame.now entry.now)) }
+    ensures err { IfErr result
+        (ByUnfit (IsSomeLarge (change_of (parts_of core.now) frame.now entry.now))) }
 {
     match change(core, frame, entry) {
         Err(_) => Err(MakeFault::Unfit),
@@ -127,8 +129,11 @@ pub fn changes(
 ) -> Result<List<Change>, MakeFault>
     requires frame { IsFrameOf core.now frame.now }
     requires there { All (λ (e : StochEntry). IsPlace core.now e.place) entries.now }
-    ensures ok { IfOk result (λ changes. changes ≡ filter_map (change_of (parts_of core.now) frame.now) entries.now) }
-    ensures err { IfErr result (ByUnfit (Any IsLargeChange (filter_map (change_of (parts_of core.now) frame.now) entries.now))) }
+    ensures ok { IfOk result
+        (λ changes. changes ≡ filter_map (change_of (parts_of core.now) frame.now) entries.now) }
+    ensures err { IfErr result
+        (ByUnfit
+        (Any IsLargeChange (filter_map (change_of (parts_of core.now) frame.now) entries.now))) }
 {
     let mut changes = List::new(alloc);
     for entry in entries {

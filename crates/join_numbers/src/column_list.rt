@@ -53,8 +53,11 @@ fn push(
     requires there { j < length core.now.columns }
     requires long { length frame.now.sides ≡ length core.now.columns }
     requires places { frame.now.cost_places ≤ 9 }
-    ensures ok { OnOk result (columns.new ≡ columns.old ++ column_of (parts_of core.now) (firsts_of periods.now) frame.now j ∷ []) }
-    ensures err { IfErr result (ByUnfit (IsLargeColumn (column_of (parts_of core.now) (firsts_of periods.now) frame.now j))) }
+    ensures ok { OnOk result
+        (columns.new
+        ≡ columns.old ++ column_of (parts_of core.now) (firsts_of periods.now) frame.now j ∷ []) }
+    ensures err { IfErr result
+        (ByUnfit (IsLargeColumn (column_of (parts_of core.now) (firsts_of periods.now) frame.now j))) }
 {
     match cost(core, frame, j) {
         None => Err(MakeFault::Unfit),
@@ -74,8 +77,11 @@ pub fn columns(
 ) -> Result<List<Column>, MakeFault>
     requires long { length frame.now.sides ≡ length core.now.columns }
     requires places { frame.now.cost_places ≤ 9 }
-    ensures ok { IfOk result (λ columns. columns ≡ columns_of (parts_of core.now) (firsts_of periods.now) frame.now) }
-    ensures err { IfErr result (ByUnfit (Any IsLargeColumn (columns_of (parts_of core.now) (firsts_of periods.now) frame.now))) }
+    ensures ok { IfOk result
+        (λ columns. columns ≡ columns_of (parts_of core.now) (firsts_of periods.now) frame.now) }
+    ensures err { IfErr result
+        (ByUnfit
+        (Any IsLargeColumn (columns_of (parts_of core.now) (firsts_of periods.now) frame.now))) }
 {
     let mut columns = List::new(alloc);
     for j in 0..core.columns.len() {

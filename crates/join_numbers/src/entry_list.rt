@@ -42,7 +42,10 @@ fn push(entries: &mut List<Entry>, frame: &Frame, entry: &CoreEntry) -> Result<(
     requires column { entry.now.column < length frame.now.sides }
     requires places { All (λ p. p ≤ 9) frame.now.row_places }
     ensures ok { OnOk result (entries.new ≡ with_entry frame.now entries.old entry.now) }
-    ensures err { IfErr result (ByUnfit ((stays frame.now.sides entry.now.column ≡ true) × IsLargeEntry (entry_of frame.now entry.now))) }
+    ensures err { IfErr result
+        (ByUnfit
+        ((stays frame.now.sides entry.now.column ≡ true)
+        × IsLargeEntry (entry_of frame.now entry.now))) }
 {
     if is_idle(&frame.sides, entry.column as usize) {
         return Ok(());
@@ -56,7 +59,8 @@ pub fn entries(alloc: Global, core: &Core, frame: &Frame) -> Result<List<Entry>,
     requires columns { length frame.now.sides ≡ length core.now.columns }
     requires places { All (λ p. p ≤ 9) frame.now.row_places }
     ensures ok { IfOk result (λ entries. entries ≡ entries_of (parts_of core.now) frame.now) }
-    ensures err { IfErr result (ByUnfit (Any IsLargeEntry (entries_of (parts_of core.now) frame.now))) }
+    ensures err { IfErr result
+        (ByUnfit (Any IsLargeEntry (entries_of (parts_of core.now) frame.now))) }
 {
     let mut entries = List::new(alloc);
     for entry in core.entries.as_slice() {

@@ -38,7 +38,8 @@ fn limit_above(rhs: i128, range: Decimal, places: u8) -> Result<Option<i128>, Un
 // The lower limit of a row with a right-hand side that fits.
 fn lower(row: &CoreRow, rhs: i128, places: u8) -> Result<Option<i128>, Unfit>
     requires { places ≤ 9 }
-    ensures { IsLimit result (lower_limit row.now.kind rhs (option_map (λ range. scaled_to range places) row.now.range)) }
+    ensures { IsLimit result
+        (lower_limit row.now.kind rhs (option_map (λ range. scaled_to range places) row.now.range)) }
 {
     match (row.kind, row.range) {
         (RowKind::Less, None) => Ok(None),
@@ -57,7 +58,8 @@ fn lower(row: &CoreRow, rhs: i128, places: u8) -> Result<Option<i128>, Unfit>
 // The upper limit of a row with a right-hand side that fits.
 fn upper(row: &CoreRow, rhs: i128, places: u8) -> Result<Option<i128>, Unfit>
     requires { places ≤ 9 }
-    ensures { IsLimit result (upper_limit row.now.kind rhs (option_map (λ range. scaled_to range places) row.now.range)) }
+    ensures { IsLimit result
+        (upper_limit row.now.kind rhs (option_map (λ range. scaled_to range places) row.now.range)) }
 {
     match (row.kind, row.range) {
         (RowKind::Greater, None) => Ok(None),

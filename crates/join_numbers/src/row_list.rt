@@ -35,8 +35,10 @@ fn push(
     requires there { i < length core.now.rows }
     requires long { length frame.now.row_places ≡ length core.now.rows }
     requires places { All (λ p. p ≤ 9) frame.now.row_places }
-    ensures ok { OnOk result (rows.new ≡ rows.old ++ row_of (parts_of core.now) (firsts_of periods.now) frame.now i ∷ []) }
-    ensures err { IfErr result (ByUnfit (IsLargeRow (row_of (parts_of core.now) (firsts_of periods.now) frame.now i))) }
+    ensures ok { OnOk result
+        (rows.new ≡ rows.old ++ row_of (parts_of core.now) (firsts_of periods.now) frame.now i ∷ []) }
+    ensures err { IfErr result
+        (ByUnfit (IsLargeRow (row_of (parts_of core.now) (firsts_of periods.now) frame.now i))) }
 {
     let own = &core.rows.as_slice()[i];
     match limits(own, own.right, frame.row_places.as_slice()[i]) {
@@ -57,8 +59,10 @@ pub fn rows(
 ) -> Result<List<Row>, MakeFault>
     requires long { length frame.now.row_places ≡ length core.now.rows }
     requires places { All (λ p. p ≤ 9) frame.now.row_places }
-    ensures ok { IfOk result (λ rows. rows ≡ rows_of (parts_of core.now) (firsts_of periods.now) frame.now) }
-    ensures err { IfErr result (ByUnfit (Any IsLargeRow (rows_of (parts_of core.now) (firsts_of periods.now) frame.now))) }
+    ensures ok { IfOk result
+        (λ rows. rows ≡ rows_of (parts_of core.now) (firsts_of periods.now) frame.now) }
+    ensures err { IfErr result
+        (ByUnfit (Any IsLargeRow (rows_of (parts_of core.now) (firsts_of periods.now) frame.now))) }
 {
     let mut rows = List::new(alloc);
     for i in 0..core.rows.len() {

@@ -28,8 +28,10 @@ fn push(
     requires frame { IsFrameOf core.now frame.now }
     requires there { All (λ (e : StochEntry). IsPlace core.now e.place) listed.now.entries }
     requires weight { listed.now.weight < 2 ^ 127 }
-    ensures ok { OnOk result (scenarios.new ≡ scenarios.old ++ scenario_of (parts_of core.now) frame.now listed.now ∷ []) }
-    ensures err { IfErr result (ByUnfit (IsLargeScenario (scenario_of (parts_of core.now) frame.now listed.now))) }
+    ensures ok { OnOk result
+        (scenarios.new ≡ scenarios.old ++ scenario_of (parts_of core.now) frame.now listed.now ∷ []) }
+    ensures err { IfErr result
+        (ByUnfit (IsLargeScenario (scenario_of (parts_of core.now) frame.now listed.now))) }
 {
     match changes(alloc, core, frame, listed.entries.as_slice()) {
         Err(fault) => Err(fault),
@@ -52,10 +54,14 @@ pub fn run_scenarios(
     listed: &[ScenarioData],
 ) -> Result<List<Scenario>, MakeFault>
     requires frame { IsFrameOf core.now frame.now }
-    requires there { All (λ (s : ScenarioData). All (λ (e : StochEntry). IsPlace core.now e.place) s.entries) listed.now }
+    requires there { All
+        (λ (s : ScenarioData). All (λ (e : StochEntry). IsPlace core.now e.place) s.entries)
+        listed.now }
     requires weights { All (λ (s : ScenarioData). s.weight < 2 ^ 127) listed.now }
-    ensures ok { IfOk result (λ scenarios. scenarios ≡ map (scenario_of (parts_of core.now) frame.now) listed.now) }
-    ensures err { IfErr result (ByUnfit (Any IsLargeScenario (map (scenario_of (parts_of core.now) frame.now) listed.now))) }
+    ensures ok { IfOk result
+        (λ scenarios. scenarios ≡ map (scenario_of (parts_of core.now) frame.now) listed.now) }
+    ensures err { IfErr result
+        (ByUnfit (Any IsLargeScenario (map (scenario_of (parts_of core.now) frame.now) listed.now))) }
 {
     let mut scenarios = List::new(alloc);
     for one in listed {

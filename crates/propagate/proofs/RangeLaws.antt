@@ -1,3 +1,4 @@
+-- The activity at a point of a box lies in the row's range, so a row that is missed is missed everywhere.
 use Rattle.std.proofs.Common.{arith, refl, ap, subst, ◌≡◌, ℕ, zero, suc, ◌*◌, ◌<◌, ◌≤◌, ◌==◌, Bool, true, false, not, ◌&&◌, ◌||◌, List, [], ◌∷◌, ℤ, pos, ◌+ℤ◌, ◌*ℤ◌, ◌≤ℤ◌, Option, Some, None, if◌then◌else◌, nat_lt, unsigned_abs}
 use Rattle.std.proofs.lemmas.Int.{ints, clamps, unsigned_abs-mul}
 use Rattle.std.proofs.lemmas.List.Sums.{sum_by-cons}

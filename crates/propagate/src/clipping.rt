@@ -61,7 +61,8 @@ fn keep_low(side: Side, size: i128, slack: i128) -> Side
     requires slack { pos 0 ≤ℤ slack }
     ensures inside { IsInside result side }
     ensures lower { result.lower ≡ side.lower }
-    ensures keeps { (x : ℤ) → x ≤ℤ side.upper → (size *ℤ (x -ℤ side.lower)) ≤ℤ slack → x ≤ℤ result.upper }
+    ensures keeps { (x : ℤ) → x ≤ℤ side.upper → (size *ℤ (x -ℤ side.lower)) ≤ℤ slack →
+        x ≤ℤ result.upper }
 {
     if is_slack(side, size, slack) {
         return side;
@@ -81,7 +82,8 @@ fn keep_high(side: Side, size: i128, slack: i128) -> Side
     requires slack { pos 0 ≤ℤ slack }
     ensures inside { IsInside result side }
     ensures upper { result.upper ≡ side.upper }
-    ensures keeps { (x : ℤ) → side.lower ≤ℤ x → (size *ℤ (side.upper -ℤ x)) ≤ℤ slack → result.lower ≤ℤ x }
+    ensures keeps { (x : ℤ) → side.lower ≤ℤ x → (size *ℤ (side.upper -ℤ x)) ≤ℤ slack →
+        result.lower ≤ℤ x }
 {
     if is_slack(side, size, slack) {
         return side;

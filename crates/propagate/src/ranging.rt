@@ -69,7 +69,8 @@ pub fn shift(sparse: &Sparse, sides: &[Side], ranges: &mut List<Range>, column: 
     requires inside { (j : ℕ) → IsInside (side_at sides.now j) (side_at sparse.now.columns j) }
     requires side { IsInside side (side_at sparse.now.columns column) }
     requires ranges { AreRanges (length sparse.now.rows) sparse.now.entries sides.now ranges.old }
-    ensures { AreRanges (length sparse.now.rows) sparse.now.entries (slice_set sides.now column side) ranges.new }
+    ensures { AreRanges (length sparse.now.rows) sparse.now.entries
+        (slice_set sides.now column side) ranges.new }
 {
     let entries = sparse.entries.as_slice();
     let starts = sparse.starts.as_slice();

@@ -52,7 +52,8 @@ fn tighten_one(problem: &Boxed, sides: &mut List<Side>, row: u32) -> Result<bool
     requires within { Within sides.old problem.now.columns }
     requires row { row < length problem.now.rows }
     ensures holds { HoldsSame (problem_of problem.now) sides.old sides.new }
-    ensures empty { IfErr result (λ e. MissesRow problem.now.rows problem.now.entries sides.new e.row) }
+    ensures empty { IfErr result
+        (λ e. MissesRow problem.now.rows problem.now.entries sides.new e.row) }
 {
     let limits = problem.rows.as_slice()[row as usize];
     let range = row_range(sides.as_slice(), problem.entries.as_slice(), row as usize);
@@ -76,7 +77,8 @@ fn tighten_one(problem: &Boxed, sides: &mut List<Side>, row: u32) -> Result<bool
 fn tighten_all(problem: &Boxed, sides: &mut List<Side>) -> Result<bool, Empty>
     requires { Within sides.old problem.now.columns }
     ensures holds { HoldsSame (problem_of problem.now) sides.old sides.new }
-    ensures empty { IfErr result (λ e. MissesRow problem.now.rows problem.now.entries sides.new e.row) }
+    ensures empty { IfErr result
+        (λ e. MissesRow problem.now.rows problem.now.entries sides.new e.row) }
 {
     let mut narrowed = false;
     for row in 0..u32::try_from(problem.rows.len()).unwrap_or(u32::MAX) {
@@ -95,7 +97,8 @@ fn tighten_all(problem: &Boxed, sides: &mut List<Side>) -> Result<bool, Empty>
 pub fn tighten(problem: &Boxed, sides: &mut List<Side>) -> Result<(), Empty>
     requires { Within sides.old problem.now.columns }
     ensures holds { HoldsSame (problem_of problem.now) sides.old sides.new }
-    ensures empty { IfErr result (λ e. MissesRow problem.now.rows problem.now.entries sides.new e.row) }
+    ensures empty { IfErr result
+        (λ e. MissesRow problem.now.rows problem.now.entries sides.new e.row) }
     ensures none { IfErr result (λ e. HoldsNone (problem_of problem.now) sides.old) }
 {
     for _ in 0..PASSES {

@@ -21,7 +21,8 @@ const VISITS_PER_ROW: usize = 30;
 fn visit(trail: &mut Trail, sparse: &Sparse) -> Result<bool, TrailFault>
     requires { sparse.now ≡ trail.old.sparse.value }
     ensures tightens { Tightens sparse.now trail.old trail.new }
-    ensures empty { OnEmpty result (λ row. MissesRow sparse.now.rows sparse.now.entries trail.new.sides row) }
+    ensures empty { OnEmpty result
+        (λ row. MissesRow sparse.now.rows sparse.now.entries trail.new.sides row) }
 {
     let Some(row) = next(&mut trail.queue) else {
         return Ok(true);
@@ -40,7 +41,8 @@ fn visit(trail: &mut Trail, sparse: &Sparse) -> Result<bool, TrailFault>
 fn visit_waiting(trail: &mut Trail, sparse: &Sparse) -> Result<(), TrailFault>
     requires { sparse.now ≡ trail.old.sparse.value }
     ensures tightens { Tightens sparse.now trail.old trail.new }
-    ensures empty { OnEmpty result (λ row. MissesRow sparse.now.rows sparse.now.entries trail.new.sides row) }
+    ensures empty { OnEmpty result
+        (λ row. MissesRow sparse.now.rows sparse.now.entries trail.new.sides row) }
 {
     let visits = sparse.rows.len().saturating_mul(VISITS_PER_ROW);
     for _ in 0..visits {
@@ -61,7 +63,8 @@ pub fn tighten_on(trail: &mut Trail, problem: &Boxed, sparse: &Sparse) -> Result
     requires sparse { sparse.now ≡ trail.old.sparse.value }
     ensures holds { HoldsSame (problem_of problem.now) trail.old.sides trail.new.sides }
     ensures marks { KeepsAllMarks trail.old trail.new }
-    ensures empty { OnEmpty result (λ row. MissesRow problem.now.rows problem.now.entries trail.new.sides row) }
+    ensures empty { OnEmpty result
+        (λ row. MissesRow problem.now.rows problem.now.entries trail.new.sides row) }
     ensures none { OnEmpty result (λ row. HoldsNone (problem_of problem.now) trail.old.sides) }
 {
     let _problem = problem;

@@ -13,7 +13,8 @@ use wide_num::List;
 /// Where the entries of the columns behind column `j` begin, from where those
 /// of column `j` begin.
 fn next_border(entries: &[Entry], j: usize, place: usize) -> usize
-    requires ascending { (k : ℕ) → k + 1 < length entries.now → ComesBefore (entry_at entries.now k) (entry_at entries.now (k + 1)) }
+    requires ascending { (k : ℕ) → k + 1 < length entries.now →
+        ComesBefore (entry_at entries.now k) (entry_at entries.now (k + 1)) }
     requires border { IsBorder entries.now j place }
     ensures { IsBorder entries.now (j + 1) result }
 {
@@ -30,9 +31,11 @@ fn column_starts(
     columns: usize,
     entries: &[Entry],
 ) -> Result<List<usize>, AllocError>
-    requires ascending { (k : ℕ) → k + 1 < length entries.now → ComesBefore (entry_at entries.now k) (entry_at entries.now (k + 1)) }
+    requires ascending { (k : ℕ) → k + 1 < length entries.now →
+        ComesBefore (entry_at entries.now k) (entry_at entries.now (k + 1)) }
     ensures long { IfOk result (λ starts. length starts ≡ columns + 1) }
-    ensures borders { IfOk result (λ starts. (j : ℕ) → j ≤ columns → IsBorder entries.now j (place_at starts j)) }
+    ensures borders { IfOk result
+        (λ starts. (j : ℕ) → j ≤ columns → IsBorder entries.now j (place_at starts j)) }
 {
     let mut starts = List::new(alloc);
     let mut place = 0;
@@ -69,8 +72,11 @@ fn row_chains(alloc: Global, rows: usize, entries: &[Entry]) -> Result<Chains, A
     requires { All (λ e. e.row < rows) entries.now }
     ensures firsts_long { IfOk result (λ chains. length chains.firsts ≡ rows) }
     ensures nexts_long { IfOk result (λ chains. length chains.nexts ≡ length entries.now) }
-    ensures firsts { IfOk result (λ chains. (i : ℕ) → i < rows → IsFirst entries.now i 0 (place_at chains.firsts i)) }
-    ensures nexts { IfOk result (λ chains. (k : ℕ) → k < length entries.now → IsFirst entries.now (entry_at entries.now k).row (k + 1) (place_at chains.nexts k)) }
+    ensures firsts { IfOk result
+        (λ chains. (i : ℕ) → i < rows → IsFirst entries.now i 0 (place_at chains.firsts i)) }
+    ensures nexts { IfOk result
+        (λ chains. (k : ℕ) → k < length entries.now →
+        IsFirst entries.now (entry_at entries.now k).row (k + 1) (place_at chains.nexts k)) }
 {
     let mut firsts = repeated(alloc, entries.len(), rows)?;
     let mut nexts = repeated(alloc, entries.len(), entries.len())?;

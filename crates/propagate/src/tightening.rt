@@ -18,7 +18,10 @@ use std::alloc::AllocError;
 pub fn is_row_missed(trail: &Trail, sparse: &Sparse, row: usize) -> bool
     requires row { row < length sparse.now.rows }
     requires sparse { sparse.now ≡ trail.now.sparse.value }
-    ensures { result ≡ misses (limits_at sparse.now.rows row) (low_activity sparse.now.entries trail.now.sides row) (high_activity sparse.now.entries trail.now.sides row) }
+    ensures { result
+        ≡ misses (limits_at sparse.now.rows row)
+        (low_activity sparse.now.entries trail.now.sides row)
+        (high_activity sparse.now.entries trail.now.sides row) }
 {
     is_missed(sparse.rows.as_slice()[row], trail.ranges.as_slice()[row])
 }
@@ -28,8 +31,11 @@ fn side_below(trail: &Trail, sparse: &Sparse, place: usize, row: usize) -> Side
     requires place { place < length sparse.now.entries }
     requires row { row ≡ (entry_at sparse.now.entries place).row }
     requires sparse { sparse.now ≡ trail.now.sparse.value }
-    requires not_missed { misses (limits_at sparse.now.rows row) (low_activity sparse.now.entries trail.now.sides row) (high_activity sparse.now.entries trail.now.sides row) ≡ false }
-    ensures { IsCut sparse.now.rows sparse.now.entries trail.now.sides (entry_at sparse.now.entries place).column result }
+    requires not_missed { misses (limits_at sparse.now.rows row)
+        (low_activity sparse.now.entries trail.now.sides row)
+        (high_activity sparse.now.entries trail.now.sides row) ≡ false }
+    ensures { IsCut sparse.now.rows sparse.now.entries trail.now.sides
+        (entry_at sparse.now.entries place).column result }
 {
     let range = trail.ranges.as_slice()[row];
     let sides = trail.sides.as_slice();
@@ -47,8 +53,11 @@ fn side_above(trail: &Trail, sparse: &Sparse, place: usize, row: usize) -> Side
     requires place { place < length sparse.now.entries }
     requires row { row ≡ (entry_at sparse.now.entries place).row }
     requires sparse { sparse.now ≡ trail.now.sparse.value }
-    requires not_missed { misses (limits_at sparse.now.rows row) (low_activity sparse.now.entries trail.now.sides row) (high_activity sparse.now.entries trail.now.sides row) ≡ false }
-    ensures { IsCut sparse.now.rows sparse.now.entries trail.now.sides (entry_at sparse.now.entries place).column result }
+    requires not_missed { misses (limits_at sparse.now.rows row)
+        (low_activity sparse.now.entries trail.now.sides row)
+        (high_activity sparse.now.entries trail.now.sides row) ≡ false }
+    ensures { IsCut sparse.now.rows sparse.now.entries trail.now.sides
+        (entry_at sparse.now.entries place).column result }
 {
     let range = trail.ranges.as_slice()[row];
     let sides = trail.sides.as_slice();
@@ -112,7 +121,8 @@ fn tighten_entry(
     requires column { column ≡ (entry_at sparse.now.entries place).column }
     requires sparse { sparse.now ≡ trail.old.sparse.value }
     ensures tightens { Tightens sparse.now trail.old trail.new }
-    ensures missed { IfOk result (λ some. some ≡ false → MissesRow sparse.now.rows sparse.now.entries trail.new.sides row) }
+    ensures missed { IfOk result
+        (λ some. some ≡ false → MissesRow sparse.now.rows sparse.now.entries trail.new.sides row) }
 {
     if is_row_missed(trail, sparse, row) {
         return Ok(false);
@@ -139,7 +149,8 @@ pub fn tighten_row(trail: &mut Trail, sparse: &Sparse, row: usize) -> Result<boo
     requires row { row < length sparse.now.rows }
     requires sparse { sparse.now ≡ trail.old.sparse.value }
     ensures tightens { Tightens sparse.now trail.old trail.new }
-    ensures missed { IfOk result (λ some. some ≡ false → MissesRow sparse.now.rows sparse.now.entries trail.new.sides row) }
+    ensures missed { IfOk result
+        (λ some. some ≡ false → MissesRow sparse.now.rows sparse.now.entries trail.new.sides row) }
 {
     if is_free(sparse.rows.as_slice()[row], trail.ranges.as_slice()[row]) {
         return Ok(true);

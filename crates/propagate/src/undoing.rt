@@ -21,7 +21,8 @@ use wide_num::List;
 
 /// The range of each row over the columns' boxes.
 fn first_ranges(alloc: Global, sparse: &Sparse) -> Result<List<Range>, AllocError>
-    ensures { IfOk result (λ ranges. AreRanges (length sparse.now.rows) sparse.now.entries sparse.now.columns ranges) }
+    ensures { IfOk result
+        (λ ranges. AreRanges (length sparse.now.rows) sparse.now.entries sparse.now.columns ranges) }
 {
     let columns = sparse.columns.as_slice();
     let entries = sparse.entries.as_slice();
@@ -146,7 +147,8 @@ impl Trail {
     fn drop_marks(&mut self, count: usize)
         requires { count ≤ length self.old.marks }
         ensures count { length self.new.marks ≡ count }
-        ensures earlier { (k : ℕ) → k < count → place_at self.new.marks k ≡ place_at self.old.marks k }
+        ensures earlier { (k : ℕ) → k < count →
+            place_at self.new.marks k ≡ place_at self.old.marks k }
         ensures sides { self.new.sides ≡ self.old.sides }
         ensures changes { self.new.changes ≡ self.old.changes }
         ensures sparse { self.new.sparse.value ≡ self.old.sparse.value }

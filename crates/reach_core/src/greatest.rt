@@ -44,7 +44,10 @@ fn top(tops: &[u128], costs: &[i128], j: usize) -> u128
 // The greater ones of some magnitudes and those of costs.
 fn raised(alloc: Global, tops: &[u128], costs: &[i128]) -> Result<Vec<u128>, AllocError>
     requires { length tops.now ≡ length costs.now }
-    ensures { IfOk result (λ raised. raised.items ≡ map (λ j. max (slice_index tops.now j) (unsigned_abs (number_at costs.now j))) (range_with_len 0 (length costs.now))) }
+    ensures { IfOk result
+        (λ raised. raised.items
+        ≡ map (λ j. max (slice_index tops.now j) (unsigned_abs (number_at costs.now j)))
+        (range_with_len 0 (length costs.now))) }
 {
     let mut raised = Vec::new(alloc);
     for j in 0..costs.len() {
@@ -72,9 +75,12 @@ fn with_scenario(
     scenario: &Scenario,
 ) -> Result<Greatest, AllocError>
     requires there { AreThere program.now }
-    requires changes { All (λ c. is_change (length program.now.rows) (length program.now.columns) c ≡ true) scenario.now.changes }
+    requires changes { All
+        (λ c. is_change (length program.now.rows) (length program.now.columns) c ≡ true)
+        scenario.now.changes }
     requires long { length before.now.tops.items ≡ length program.now.columns }
-    ensures { (ds : List Data) → AreGreatest program.now ds before.now → IfOk result (λ g. AreGreatest program.now (ds ++ data_of program.now scenario.now ∷ []) g) }
+    ensures { (ds : List Data) → AreGreatest program.now ds before.now →
+        IfOk result (λ g. AreGreatest program.now (ds ++ data_of program.now scenario.now ∷ []) g) }
 {
     let draft = drafted(alloc, program, scenario)?;
     let tops = raised(alloc, before.tops.as_slice(), draft.costs.as_slice())?;
@@ -88,7 +94,10 @@ fn with_scenario(
 /// Those of the core and of all scenarios.
 pub fn of_all(alloc: Global, program: &Program) -> Result<Greatest, AllocError>
     requires there { AreThere program.now }
-    requires changes { All (λ (s : Scenario). All (λ c. is_change (length program.now.rows) (length program.now.columns) c ≡ true) s.changes) program.now.scenarios }
+    requires changes { All
+        (λ (s : Scenario). All
+        (λ c. is_change (length program.now.rows) (length program.now.columns) c ≡ true)
+        s.changes) program.now.scenarios }
     ensures { IfOk result (λ g. AreGreatest program.now (all_data program.now) g) }
 {
     let mut greatest = of_core(alloc, program)?;

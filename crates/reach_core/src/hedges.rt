@@ -30,7 +30,10 @@ fn step_reach(program: &Program, options: &Options, total: i128, j: usize) -> u1
 // What a column adds by its multipliers.
 fn multiplied(program: &Program, options: &Options, total: i128, j: usize) -> u128
     requires { j < length program.now.columns }
-    ensures { result ≡ capped (2 * ((options.now.iterations + 2) * step_reach program.now options.now total j) * box_reach program.now j) }
+    ensures { result
+        ≡ capped
+        (2 * ((options.now.iterations + 2) * step_reach program.now options.now total j) *
+        box_reach program.now j) }
 {
     let most = capped_product(
         u128::from(options.iterations) + 2,
@@ -42,7 +45,10 @@ fn multiplied(program: &Program, options: &Options, total: i128, j: usize) -> u1
 // What a column adds by its squares.
 fn squared(program: &Program, options: &Options, total: i128, j: usize) -> u128
     requires { j < length program.now.columns }
-    ensures { result ≡ capped (3 * unsigned_abs options.now.rho * unsigned_abs total * (box_reach program.now j * box_reach program.now j)) }
+    ensures { result
+        ≡ capped
+        (3 * unsigned_abs options.now.rho * unsigned_abs total *
+        (box_reach program.now j * box_reach program.now j)) }
 {
     let reach = box_reach(program, j);
     capped_product(

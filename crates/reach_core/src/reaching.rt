@@ -19,7 +19,10 @@ use std::alloc::{AllocError, Global};
 // The sum of the columns' greatest costs, each times its box.
 fn cost_sum(program: &Program, tops: &[u128]) -> u128
     requires { length tops.now ≡ length program.now.columns }
-    ensures { result ≡ capped (size_below (length program.now.columns) (λ j. slice_index tops.now j * box_reach program.now j)) }
+    ensures { result
+        ≡ capped
+        (size_below (length program.now.columns)
+        (λ j. slice_index tops.now j * box_reach program.now j)) }
 {
     let mut sum = 0;
     for j in 0..tops.len() {
@@ -40,7 +43,9 @@ fn line_reach(program: &Program, options: &Options, total: i128, tops: &[u128]) 
 // Twice the hedged objectives of so many scenarios.
 fn hedged(program: &Program, options: &Options, total: i128, nonleaf: u32) -> u128
     requires { nonleaf ≤ length program.now.columns }
-    ensures { result ≡ capped (2 * length program.now.scenarios * hedge_reach program.now options.now total nonleaf) }
+    ensures { result
+        ≡ capped
+        (2 * length program.now.scenarios * hedge_reach program.now options.now total nonleaf) }
 {
     capped_product(
         2 * program.scenarios.len() as u128,
@@ -59,9 +64,13 @@ pub fn run_reach(
     nonleaf: u32,
 ) -> Result<u128, AllocError>
     requires there { AreThere program.now }
-    requires changes { All (λ (s : Scenario). All (λ c. is_change (length program.now.rows) (length program.now.columns) c ≡ true) s.changes) program.now.scenarios }
+    requires changes { All
+        (λ (s : Scenario). All
+        (λ c. is_change (length program.now.rows) (length program.now.columns) c ≡ true)
+        s.changes) program.now.scenarios }
     requires nonleaf { nonleaf ≤ length program.now.columns }
-    ensures { IfOk result (λ reach. reach ≡ capped (run_reach program.now options.now total nonleaf)) }
+    ensures { IfOk result
+        (λ reach. reach ≡ capped (run_reach program.now options.now total nonleaf)) }
 {
     let greatest = of_all(alloc, program)?;
     let line = line_reach(program, options, total, greatest.tops.as_slice());

@@ -16,7 +16,8 @@ use std::alloc::{AllocError, Global};
 // The part of an entry in its row, up to the cap.
 fn part(program: &Program, entry: &Entry) -> u128
     requires { entry.now.column < length program.now.columns }
-    ensures { result ≡ capped (unsigned_abs entry.now.value * box_reach program.now entry.now.column) }
+    ensures { result
+        ≡ capped (unsigned_abs entry.now.value * box_reach program.now entry.now.column) }
 {
     capped_product(size(entry.value), box_reach(program, entry.column as usize))
 }
@@ -45,7 +46,9 @@ fn add(sums: &mut Vec<u128>, program: &Program, entry: &Entry)
 
 // The parts of some entries in each row, up to the cap.
 fn row_sums(alloc: Global, program: &Program, entries: &[Entry]) -> Result<Vec<u128>, AllocError>
-    requires { All (λ (e : Entry). (e.row < length program.now.rows) × (e.column < length program.now.columns)) entries.now }
+    requires { All
+        (λ (e : Entry). (e.row < length program.now.rows) × (e.column < length program.now.columns))
+        entries.now }
     ensures { IfOk result (λ sums. sums.items ≡ sums_of program.now entries.now) }
 {
     let mut sums = zeros(alloc, program.rows.len())?;
@@ -67,7 +70,9 @@ fn row_reach(limits: &[Limits], sums: &[u128], i: usize) -> u128
 /// The greatest row of some data, up to the cap: the greater magnitude of its
 /// limits and the parts of its entries.
 pub fn data_reach(alloc: Global, program: &Program, draft: &Draft) -> Result<u128, AllocError>
-    requires there { All (λ (e : Entry). (e.row < length program.now.rows) × (e.column < length program.now.columns)) draft.now.entries.items }
+    requires there { All
+        (λ (e : Entry). (e.row < length program.now.rows) × (e.column < length program.now.columns))
+        draft.now.entries.items }
     requires whole { length draft.now.limits.items ≡ length program.now.rows }
     ensures { IfOk result (λ most. most ≡ capped (data_reach program.now (data_in draft.now))) }
 {

@@ -44,7 +44,8 @@ pub fn improve(
     requires prices { FitsPrices (problem_of problem.now) prices.old }
     ensures fits { FitsPrices (problem_of problem.now) prices.new }
     ensures scale { prices.new.scale ≡ prices.old.scale }
-    ensures total { price_total (problem_of problem.now) prices.old sides.now ≤ℤ price_total (problem_of problem.now) prices.new sides.now }
+    ensures total { price_total (problem_of problem.now) prices.old sides.now
+        ≤ℤ price_total (problem_of problem.now) prices.new sides.now }
     ensures err { OnErr result (prices.new ≡ prices.old) }
 {
     let found = suggested(problem, sides, prices, rounds)?;

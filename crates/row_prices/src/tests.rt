@@ -65,7 +65,8 @@ fn problem(
 
 /// Whether a side isn't empty and lies in another.
 fn is_within(inner: Side, outer: Side) -> bool
-    ensures { result ≡ true → (inner.lower ≤ℤ inner.upper) × (outer.lower ≤ℤ inner.lower) × (inner.upper ≤ℤ outer.upper) }
+    ensures { result ≡ true →
+        (inner.lower ≤ℤ inner.upper) × (outer.lower ≤ℤ inner.lower) × (inner.upper ≤ℤ outer.upper) }
 {
     if inner.lower > inner.upper {
         return false;

@@ -60,7 +60,8 @@ fn step(words: &[String], name: &[u8], pair: usize, given: Given) -> Given
     requires there { pair < pair_count (map string_bytes words.now) }
     requires below { IsBelow given pair }
     requires so_far { given ≡ given_by (pairs_before name.now (map string_bytes words.now) pair) }
-    ensures exact { result ≡ given_by (pairs_before name.now (map string_bytes words.now) (pair + 1)) }
+    ensures exact { result
+        ≡ given_by (pairs_before name.now (map string_bytes words.now) (pair + 1)) }
     ensures below { IsBelow result (pair + 1) }
 {
     if same(name_of(words, pair), name) {
@@ -72,7 +73,10 @@ fn step(words: &[String], name: &[u8], pair: usize, given: Given) -> Given
 
 /// How often the words give the option of this name.
 pub fn times_given(words: &[String], name: &[u8]) -> Given
-    ensures exact { result ≡ given_by (pairs_before name.now (map string_bytes words.now) (pair_count (map string_bytes words.now))) }
+    ensures exact { result
+        ≡ given_by
+        (pairs_before name.now (map string_bytes words.now)
+        (pair_count (map string_bytes words.now))) }
     ensures below { IsBelow result (pair_count (map string_bytes words.now)) }
 {
     let mut given = Given::Never;

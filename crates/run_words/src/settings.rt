@@ -18,7 +18,10 @@ fn value_in(words: &[String], pair: usize, least: u64, greatest: u64) -> Option<
 fn number(words: &[String], name: &[u8], least: u64, greatest: u64, default: u64) -> Option<u64>
     requires low { least ≤ default }
     requires high { default ≤ greatest }
-    ensures value { result ≡ number_for (record { name = name.now; least = least; greatest = greatest; default = default }) (map string_bytes words.now) }
+    ensures value { result
+        ≡ number_for
+        (record { name = name.now; least = least; greatest = greatest; default = default })
+        (map string_bytes words.now) }
     ensures range { IfSome result (λ k. (least ≤ k) × (k ≤ greatest)) }
 {
     match times_given(words, name) {

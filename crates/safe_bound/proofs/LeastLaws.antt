@@ -1,3 +1,4 @@
+-- The least of a column's part on a side, and the least of an objective in a box.
 use Rattle.std.proofs.Common.{arith, refl, ap, ◌≡◌, ℕ, zero, suc, ◌+◌, ◌*◌, ◌^◌, ◌<◌, ◌≤◌, Bool, true, false, List, [], ◌∷◌, map, length, ℤ, pos, ◌+ℤ◌, ◌-ℤ◌, ◌≤ℤ◌, ◌<ℤ◌, FitsSigned, if◌then◌else◌, int_lt, unsigned_abs}
 use Rattle.std.proofs.lemmas.Int.{ints, clamps}
 use Rattle.std.proofs.Math.Nat.{mul-le-mul, mul-le-mul_left}

@@ -41,7 +41,8 @@ pub fn bound(problem: &Boxed, sides: &List<Side>, prices: &Prices) -> i128
     requires sides { Within sides.now problem.now.columns }
     requires prices { FitsPrices (problem_of problem.now) prices.now }
     ensures number { IsPriceBound (problem_of problem.now) prices.now sides.now result }
-    ensures below { (x : List ℤ) → Feasible (problem_of problem.now) x → InBox sides.now x → result ≤ℤ value_of (problem_of problem.now) x }
+    ensures below { (x : List ℤ) → Feasible (problem_of problem.now) x → InBox sides.now x →
+        result ≤ℤ value_of (problem_of problem.now) x }
 {
     ceil_div(price_total(problem, sides, prices), prices.scale)
 }

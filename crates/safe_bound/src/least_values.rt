@@ -35,7 +35,8 @@ fn nearest(side: Side, place: i128) -> i64
 fn least_place(line: i128, square: i128, side: Side) -> i64
     requires filled { side.lower ≤ℤ side.upper }
     requires convex { pos 0 ≤ℤ square }
-    requires fits { unsigned_abs line * reach side + unsigned_abs square * (reach side * reach side) ≤ 2 ^ 125 }
+    requires fits { unsigned_abs line * reach side + unsigned_abs square * (reach side * reach side)
+        ≤ 2 ^ 125 }
     ensures { IsLeastAt line square side result }
 {
     if side.upper <= side.lower {
@@ -51,7 +52,8 @@ fn least_place(line: i128, square: i128, side: Side) -> i64
 
 /// What a column with a linear and a square cost adds at the value `x`.
 fn curve_at(line: i128, square: i128, x: i64) -> i128
-    requires { unsigned_abs line * unsigned_abs x + unsigned_abs square * (unsigned_abs x * unsigned_abs x) ≤ 2 ^ 125 }
+    requires { unsigned_abs line * unsigned_abs x + unsigned_abs square *
+        (unsigned_abs x * unsigned_abs x) ≤ 2 ^ 125 }
     ensures { result ≡ curve line square x }
 {
     let x = i128::from(x);
@@ -63,7 +65,8 @@ fn curve_at(line: i128, square: i128, x: i64) -> i128
 pub fn column_least(line: i128, square: i128, side: Side) -> i128
     requires filled { side.lower ≤ℤ side.upper }
     requires convex { pos 0 ≤ℤ square }
-    requires fits { unsigned_abs line * reach side + unsigned_abs square * (reach side * reach side) ≤ 2 ^ 125 }
+    requires fits { unsigned_abs line * reach side + unsigned_abs square * (reach side * reach side)
+        ≤ 2 ^ 125 }
     ensures { result ≡ least_on line square side }
 {
     curve_at(line, square, least_place(line, square, side))

@@ -69,7 +69,8 @@ pub fn total_from(reduced: &Reduced, sides: &List<Side>) -> i128
 pub fn bound_from(reduced: &Reduced, sides: &List<Side>) -> i128
     requires { Within sides.now reduced.now.columns }
     ensures number { IsCeiling (reduced_total reduced.now sides.now) reduced.now.scale result }
-    ensures bound { (b : Problem) (prices : Prices) → IsReduced b prices reduced.now → IsPriceBound b prices sides.now result }
+    ensures bound { (b : Problem) (prices : Prices) → IsReduced b prices reduced.now →
+        IsPriceBound b prices sides.now result }
 {
     ceil_div(total_from(reduced, sides), reduced.scale)
 }

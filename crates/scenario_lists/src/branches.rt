@@ -30,7 +30,8 @@ fn joined(
     branch: &Branch,
 ) -> Result<Vec<StochEntry>, AllocError>
     requires { IsEarlier branch.now.parent (length made.now) }
-    ensures { IfOk result (λ entries. entries.items ≡ branch.now.entries ++ inherited made.now branch.now.parent) }
+    ensures { IfOk result
+        (λ entries. entries.items ≡ branch.now.entries ++ inherited made.now branch.now.parent) }
 {
     let mut entries = Vec::new(alloc);
     entries.extend_from_slice(branch.entries.as_slice())?;

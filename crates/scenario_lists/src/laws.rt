@@ -14,25 +14,31 @@ ghost use Rattle.scenario_lists.specs.ScenarioList.{HaveAllParents, count_of, ma
 /// begin with the first realisation of the first element, then those that begin
 /// with its second, and so on.
 pub fn combinations_in_order()
-    ensures { (elements : List Element) → map (choices_of elements) (range_with_len 0 (combinations elements)) ≡ all_choices elements }
+    ensures { (elements : List Element) →
+        map (choices_of elements) (range_with_len 0 (combinations elements)) ≡ all_choices elements }
 {}
 
 /// Two combinations have the same mark at a stage exactly where they choose the
 /// same realisation in every element of a period up to it.
 pub fn marks_of_agreeing()
-    ensures { (elements : List Element) (t s u : ℕ) → s < combinations elements → u < combinations elements → (mark_in elements (choices_of elements s) t ≡ mark_in elements (choices_of elements u) t) ↔ Agree elements (choices_of elements s) (choices_of elements u) t }
+    ensures { (elements : List Element) (t s u : ℕ) → s < combinations elements →
+        u < combinations elements →
+        (mark_in elements (choices_of elements s) t ≡ mark_in elements (choices_of elements u) t)
+        ↔ Agree elements (choices_of elements s) (choices_of elements u) t }
 {}
 
 /// No two entries of a scenario are of one place.
 pub fn places_differ()
-    ensures { (entries : List StochEntry) → AllPairs (λ e f. same_place e.place f.place ≡ false) (first_of_each entries) }
+    ensures { (entries : List StochEntry) →
+        AllPairs (λ e f. same_place e.place f.place ≡ false) (first_of_each entries) }
 {}
 
 /// Scenarios that have the same mark at a stage have the same one at the stage
 /// before, and no two have the same mark at the last stage. There is one list of
 /// marks for each scenario.
 pub fn marks_branch()
-    ensures nested { (stages : ℕ) (stoch : Stoch) → HaveAllParents stoch → AreNested stages (marks_of stages stoch) }
+    ensures nested { (stages : ℕ) (stoch : Stoch) → HaveAllParents stoch →
+        AreNested stages (marks_of stages stoch) }
     ensures apart { (stages : ℕ) (stoch : Stoch) → 1 ≤ stages → HavePeriods stages stoch → (s u : ℕ) → s < count_of stoch → u < count_of stoch →
         mark_of (marks_of stages stoch) stages s ≡ mark_of (marks_of stages stoch) stages u → s ≡ u }
     ensures long { (stages : ℕ) (stoch : Stoch) → length (marks_of stages stoch) ≡ count_of stoch }

@@ -44,7 +44,8 @@ pub fn marks(
 ) -> Result<List<u32>, AllocError>
     requires choices { AreChoices elements.now choices.now }
     requires few { combinations elements.now ≤ max_scenarios }
-    ensures { IfOk result (λ marks. marks ≡ map (mark_in elements.now choices.now) (range_with_len 1 stages)) }
+    ensures { IfOk result
+        (λ marks. marks ≡ map (mark_in elements.now choices.now) (range_with_len 1 stages)) }
 {
     let mut marks = List::new(alloc);
     for before in 0..stages {

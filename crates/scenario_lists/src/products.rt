@@ -36,7 +36,8 @@ fn append(
 ) -> Result<(), AllocError>
     requires choices { AreChoices elements.now choices.now }
     requires there { k < length elements.now }
-    ensures { OnOk result (entries.new.items ≡ entries.old.items ++ entries_at elements.now choices.now k) }
+    ensures { OnOk result
+        (entries.new.items ≡ entries.old.items ++ entries_at elements.now choices.now k) }
 {
     entries.extend_from_slice(chosen_at(elements, choices, k).entries.as_slice())?;
     entries.extend_from_slice(realisations_at(elements, k)[0].entries.as_slice())?;

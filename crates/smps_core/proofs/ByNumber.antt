@@ -10,7 +10,7 @@ use Rattle.core_lines.specs.Parts.{Before}
 use Rattle.smps_words.specs.declared.core_data.CoreRow.{CoreRow}
 use Rattle.smps_words.specs.declared.core_data.CoreColumn.{CoreColumn}
 use Rattle.smps_words.specs.declared.core_data.RowKind.{RowKind}
-use Rattle.smps_core.specs.CoreData.{side_of, cost_of, rows_of, row_of, columns_of, column_of}
+use Rattle.smps_core.specs.CoreData.{side_said, cost_of, rows_of, row_of, columns_of, column_of}
 use Rattle.smps_core.specs.Rows.{row_with, column_with}
 
 same_from : {X : Type 0} (f g : ℕ → X) (a n : ℕ) → ((i : ℕ) → a ≤ i → i < a + n → f i ≡ g i) → map f (range_with_len a n) ≡ map g (range_with_len a n)
@@ -29,7 +29,7 @@ all_by_number P f n holds = λ k d lt.
     let small : k < n = subst (λ (m : ℕ). k < m) (length-map-range_with_len f 0 n) lt in
     subst P (sym (get_or-map-range_with_len f 0 n k k d small (omega arith))) (holds k small)
 
-row_by : (b : Before) (rights ranges : List (Option Decimal)) (i : ℕ) → get_or rights (i + 1) None ≡ side_of b.rights.values (i + 1) → get_or ranges (i + 1) None ≡ side_of b.ranges.values (i + 1) → row_with b.rows.kinds rights ranges i ≡ row_of b i
+row_by : (b : Before) (rights ranges : List (Option Decimal)) (i : ℕ) → get_or rights (i + 1) None ≡ side_said b.rights.values (i + 1) → get_or ranges (i + 1) None ≡ side_said b.ranges.values (i + 1) → row_with b.rows.kinds rights ranges i ≡ row_of b i
 row_by b rights ranges i right range = λ k. record {
   kind = (row_of b i).kind;
   right = unwrap_or (right k) zero_decimal;
@@ -37,7 +37,7 @@ row_by b rights ranges i right range = λ k. record {
 }
 
 -- the rows by the sides of each row
-pub rows_are : (b : Before) (kinds : List RowKind) (rights ranges : List (Option Decimal)) (n : ℕ) (rows : List CoreRow) → n ≡ length b.rows.names → kinds ≡ b.rows.kinds → ((place : ℕ) → place < n + 1 → get_or rights place None ≡ side_of b.rights.values place) → ((place : ℕ) → place < n + 1 → get_or ranges place None ≡ side_of b.ranges.values place) → rows ≡ map (row_with kinds rights ranges) (range_with_len 0 n) → rows ≡ rows_of b
+pub rows_are : (b : Before) (kinds : List RowKind) (rights ranges : List (Option Decimal)) (n : ℕ) (rows : List CoreRow) → n ≡ length b.rows.names → kinds ≡ b.rows.kinds → ((place : ℕ) → place < n + 1 → get_or rights place None ≡ side_said b.rights.values place) → ((place : ℕ) → place < n + 1 → get_or ranges place None ≡ side_said b.ranges.values place) → rows ≡ map (row_with kinds rights ranges) (range_with_len 0 n) → rows ≡ rows_of b
 rows_are b kinds rights ranges n rows counted kinds_are right range is =
     is
     ∙ ap (λ (k : List RowKind). map (row_with k rights ranges) (range_with_len 0 n)) kinds_are

@@ -22,7 +22,7 @@ use Rattle.core_lines.specs.declared.cells.Bound.{Bound}
 use Rattle.core_lines.specs.declared.cells.Cell.{Cell}
 use Rattle.core_lines.specs.declared.cells.RowValue.{RowValue}
 use Rattle.smps_core.proofs.ByNumber.{all_by_number}
-use Rattle.smps_core.specs.CoreData.{AreEntriesOf, column_of, columns_of, constant_of, cost_of, entries_of, entry_of, is_entry, minus, row_of, rows_of, side_of}
+use Rattle.smps_core.specs.CoreData.{AreEntriesOf, column_of, columns_of, constant_of, cost_of, entries_of, entry_of, is_entry, minus, row_of, rows_of, side_said}
 use Rattle.smps_core.specs.CoreMeaning.{FitsTogether}
 
 -- what the last of the items says is what an item says, or the other value
@@ -37,7 +37,7 @@ latest_has P passes says other (x ∷ items) base all = latest_has P passes says
 zero_short : IsShort zero_decimal
 zero_short = (lit≤ tt, lit≤ tt)
 
-pub side_short : (values : List RowValue) → All (λ (v : RowValue). IsShort v.value) values → (place : ℕ) → IsShort (unwrap_or (side_of values place) zero_decimal)
+pub side_short : (values : List RowValue) → All (λ (v : RowValue). IsShort v.value) values → (place : ℕ) → IsShort (unwrap_or (side_said values place) zero_decimal)
 side_short values shorts place = latest_has (λ (o : Option Decimal). IsShort (unwrap_or o zero_decimal)) (λ (v : RowValue). v.row == place) (λ (v : RowValue). Some v.value) None values zero_short shorts
 
 cost_short : (cells : List Cell) → All (λ (c : Cell). IsShort c.value) cells → (j : ℕ) → IsShort (unwrap_or (cost_of cells j) zero_decimal)
@@ -100,7 +100,7 @@ made_facts b marks right_flags range_flags bound_flags entries few columns right
       ranges = all_by_number (λ (r : CoreRow). IsShort (unwrap_or r.range zero_decimal)) (row_of b) m (λ i lt. side_short b.ranges.values ranges.shorts (i + 1));
       costs = all_by_number (λ (c : CoreColumn). IsShort c.cost) (column_of b) n (λ j lt. cost_short b.columns.cells columns.values j);
       values = All-permutation (λ (e : CoreEntry). IsShort e.value) (entries_of b.columns.cells) entries ordered.0 (All-map (λ (e : CoreEntry). IsShort e.value) entry_of (filter is_entry b.columns.cells) (All-filter is_entry (λ (c : Cell). IsShort c.value) b.columns.cells columns.values));
-      constant_short = minus_short (unwrap_or (side_of b.rights.values 0) zero_decimal) (side_short b.rights.values rights.shorts 0);
+      constant_short = minus_short (unwrap_or (side_said b.rights.values 0) zero_decimal) (side_short b.rights.values rights.shorts 0);
       lowers = all_by_number (λ (c : CoreColumn). end_size c.lower ≤ max_end) (column_of b) n (λ j lt. lower_small b.bounds.bounds bounds.lowers j);
       uppers = all_by_number (λ (c : CoreColumn). end_size c.upper ≤ max_end) (column_of b) n (λ j lt. upper_small b.bounds.bounds bounds.uppers j);
       filled = all_by_number (λ (c : CoreColumn). is_empty_box c.lower c.upper ≡ false) (column_of b) n (λ j lt. none_passes n (λ j. is_empty_box (lower_of b.bounds.bounds j) (upper_of b.bounds.bounds j)) j fits.filled lt);

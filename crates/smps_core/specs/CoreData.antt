@@ -17,8 +17,8 @@ use Rattle.core_lines.specs.declared.cells.Cell.{Cell}
 use Rattle.core_lines.specs.declared.cells.RowValue.{RowValue}
 
 -- the right side or range that the lines say of a row, counted with the objective as 0 and the constraint rows from 1
-abbrev pub side_of : List RowValue → ℕ → Option Decimal
-side_of values place = latest (λ (v : RowValue). v.row == place) (λ (v : RowValue). Some v.value) None values
+abbrev pub side_said : List RowValue → ℕ → Option Decimal
+side_said values place = latest (λ (v : RowValue). v.row == place) (λ (v : RowValue). Some v.value) None values
 
 -- the cost that the lines say of a column
 abbrev pub cost_of : List Cell → ℕ → Option Decimal
@@ -28,8 +28,8 @@ cost_of cells column = latest (is_cell_of 0 column) (λ (c : Cell). Some c.value
 abbrev pub row_of : Before → ℕ → CoreRow
 row_of said i = record {
   kind = slice_index_or said.rows.kinds i Less;
-  right = unwrap_or (side_of said.rights.values (i + 1)) zero_decimal;
-  range = side_of said.ranges.values (i + 1);
+  right = unwrap_or (side_said said.rights.values (i + 1)) zero_decimal;
+  range = side_said said.ranges.values (i + 1);
 }
 
 -- the column of number j, from 0
@@ -73,7 +73,7 @@ minus d = record { mantissa = neg_ℤ d.mantissa; places = d.places }
 
 -- the right side of the objective, 0 where there is none
 abbrev pub objective_side : Before → Decimal
-objective_side said = unwrap_or (side_of said.rights.values 0) zero_decimal
+objective_side said = unwrap_or (side_said said.rights.values 0) zero_decimal
 
 -- the constant of the cost: minus the right side of the objective
 abbrev pub constant_of : Before → Decimal

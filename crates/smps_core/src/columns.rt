@@ -47,7 +47,10 @@ fn columns_with(
 ) -> Result<List<CoreColumn>, AllocError>
     requires lowers { length lowers.now ≡ length costs.now }
     requires uppers { length uppers.now ≡ length costs.now }
-    ensures { IfOk result (λ columns. columns ≡ map (column_with lowers.now uppers.now flags.now costs.now) (range_with_len 0 (length costs.now))) }
+    ensures { IfOk result
+        (λ columns. columns
+        ≡ map (column_with lowers.now uppers.now flags.now costs.now)
+        (range_with_len 0 (length costs.now))) }
 {
     let mut columns = List::new(alloc);
     for j in 0..costs.len() {

@@ -12,7 +12,8 @@ use wide_num::List;
 
 // Appends the entry of a pair, unless its row is the objective.
 fn push_entry(entries: &mut List<CoreEntry>, cell: Cell) -> Result<(), AllocError>
-    ensures { OnOk result (entries.new ≡ (if is_entry cell then entries.old ++ entry_of cell ∷ [] else entries.old)) }
+    ensures { OnOk result
+        (entries.new ≡ (if is_entry cell then entries.old ++ entry_of cell ∷ [] else entries.old)) }
 {
     if cell.row == 0 {
         return Ok(());

@@ -144,7 +144,8 @@ fn parts_of(alloc: Global, state: &State) -> Result<Parts, AllocError>
 
 // The core of these parts.
 fn core_with(lists: Lists, words: Words, row_names: Names, column_names: Names) -> Core
-    requires { CoreFacts lists.rows lists.columns lists.entries words.constant row_names column_names }
+    requires { CoreFacts lists.rows lists.columns lists.entries words.constant row_names
+        column_names }
     ensures { HasParts result lists words row_names column_names }
 {
     Core {

@@ -17,13 +17,15 @@ ghost use Rattle.smps_core.specs.NameOrder.{AreInOrder, column_given, row_given}
 /// line of COLUMNS has it, behind the lines before that line. A pair of an
 /// ignored row has no row's number, and isn't there.
 pub fn cells_law()
-    ensures { (lines : List TextLine) (c : Cell) → BothWays (Contains (cells_of lines) c) (IsSaid lines c) }
+    ensures { (lines : List TextLine) (c : Cell) →
+        BothWays (Contains (cells_of lines) c) (IsSaid lines c) }
 {}
 
 /// An entry is there exactly where the lines say its pair, the objective's pairs
 /// aside.
 pub fn entries_law()
-    ensures { (cells : List Cell) (entries : List CoreEntry) → AreEntriesOf cells entries → (e : CoreEntry) → BothWays (Contains entries e) (Contains cells (cell_at e)) }
+    ensures { (cells : List Cell) (entries : List CoreEntry) → AreEntriesOf cells entries →
+        (e : CoreEntry) → BothWays (Contains entries e) (Contains cells (cell_at e)) }
 {}
 
 /// The box of a column goes from 0 on without a line, and one more line of
@@ -40,6 +42,8 @@ pub fn boxes_law()
 /// there. So with the names of the constraint rows and the lines of ROWS up to the end
 /// of a file without a fault.
 pub fn names_law()
-    ensures columns { (lines : List TextLine) → AreInOrder column_given lines (column_names_of lines) }
-    ensures rows { (lines before : List TextLine) → outcome_of lines ≡ Ended before → AreInOrder row_given before (rows_of before).names }
+    ensures columns { (lines : List TextLine) →
+        AreInOrder column_given lines (column_names_of lines) }
+    ensures rows { (lines before : List TextLine) → outcome_of lines ≡ Ended before →
+        AreInOrder row_given before (rows_of before).names }
 {}

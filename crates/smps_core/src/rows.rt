@@ -51,7 +51,8 @@ fn rows_with(
     requires rights { length rights.now ≡ count + 1 }
     requires ranges { length ranges.now ≡ count + 1 }
     requires small { count < 2 ^ 32 }
-    ensures { IfOk result (λ rows. rows ≡ map (row_with kinds.now rights.now ranges.now) (range_with_len 0 count)) }
+    ensures { IfOk result
+        (λ rows. rows ≡ map (row_with kinds.now rights.now ranges.now) (range_with_len 0 count)) }
 {
     let mut rows = List::new(alloc);
     for i in 0..count {

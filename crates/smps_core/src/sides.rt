@@ -1,5 +1,5 @@
 ghost use Rattle.std.specs.Prelude.{◌≡◌, ℕ, ◌<◌, ◌==◌, None, Some, length, replicate, slice_index_or, slice_set, IfOk, if◌then◌else◌};
-ghost use Rattle.smps_core.specs.CoreData.{cost_of, side_of};
+ghost use Rattle.smps_core.specs.CoreData.{cost_of, side_said};
 
 use core_lines::{Cell, RowValue};
 use dec_core::Decimal;
@@ -28,7 +28,8 @@ fn put(numbers: &mut List<Option<Decimal>>, place: u32, number: Decimal)
 
 // Puts the number of a pair in its column's place, where the row is the objective.
 fn put_cost(numbers: &mut List<Option<Decimal>>, row: u32, column: u32, number: Decimal)
-    ensures { numbers.new ≡ (if row == 0 then slice_set numbers.old column (Some number) else numbers.old) }
+    ensures { numbers.new
+        ≡ (if row == 0 then slice_set numbers.old column (Some number) else numbers.old) }
 {
     if row == 0 {
         put(numbers, column, number);
@@ -43,7 +44,9 @@ pub fn sides_of(
     count: usize,
 ) -> Result<List<Option<Decimal>>, AllocError>
     ensures counted { IfOk result (λ sides. length sides ≡ count) }
-    ensures each { IfOk result (λ sides. (place : ℕ) → place < count → slice_index_or sides place None ≡ side_of values.now place) }
+    ensures each { IfOk result
+        (λ sides. (place : ℕ) → place < count →
+        slice_index_or sides place None ≡ side_said values.now place) }
 {
     let mut sides = without_numbers(alloc, count)?;
     for value in values {
@@ -59,7 +62,8 @@ pub fn costs_of(
     count: usize,
 ) -> Result<List<Option<Decimal>>, AllocError>
     ensures counted { IfOk result (λ costs. length costs ≡ count) }
-    ensures each { IfOk result (λ costs. (j : ℕ) → j < count → slice_index_or costs j None ≡ cost_of cells.now j) }
+    ensures each { IfOk result
+        (λ costs. (j : ℕ) → j < count → slice_index_or costs j None ≡ cost_of cells.now j) }
 {
     let mut costs = without_numbers(alloc, count)?;
     for cell in cells {

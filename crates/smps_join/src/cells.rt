@@ -60,7 +60,9 @@ fn change_count(sides: &List<Side>, entries: &[StochEntry]) -> usize
 
 /// Whether all scenarios together have too many changes.
 pub fn has_many_changes(sides: &List<Side>, listed: &[ScenarioData]) -> bool
-    requires { All (λ (s : ScenarioData). All (λ (e : StochEntry). IsNamed sides.now e.place) s.entries) listed.now }
+    requires { All
+        (λ (s : ScenarioData). All (λ (e : StochEntry). IsNamed sides.now e.place) s.entries)
+        listed.now }
     ensures { result ≡ nat_lt MAX_CELLS (changes_count sides.now listed.now) }
 {
     let mut left = MAX_CELLS;

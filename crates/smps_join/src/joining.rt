@@ -118,7 +118,8 @@ fn listed(
     requires can { CanJoin core.now periods.now stoch.now options.now }
     requires timely { IsTimely (source_of core.now periods.now stoch.now options.now) }
     requires few { is_crowded (source_of core.now periods.now stoch.now options.now) ≡ false }
-    requires cells { has_many_cells count (length core.now.columns) (length core.now.rows) nonleaf ≡ false }
+    requires cells { has_many_cells count (length core.now.columns) (length core.now.rows) nonleaf
+        ≡ false }
     requires count { count ≡ count_of stoch.now }
     requires nonleaf { nonleaf ≡ nonleaf_of (source_of core.now periods.now stoch.now options.now) }
     ensures { Joins result (source_of core.now periods.now stoch.now options.now) options.now }

@@ -71,13 +71,17 @@ pub fn program(
     listed: &List<ScenarioData>,
 ) -> Result<Program, MakeFault>
     requires frame { IsFrameOf core.now frame.now }
-    requires there { All (λ (s : ScenarioData). All (λ (e : StochEntry). IsPlace core.now e.place) s.entries) listed.now }
+    requires there { All
+        (λ (s : ScenarioData). All (λ (e : StochEntry). IsPlace core.now e.place) s.entries)
+        listed.now }
     requires weights { All (λ (s : ScenarioData). s.weight < 2 ^ 127) listed.now }
     requires all { length listed.now ≡ count_of stoch.now }
     requires few { length listed.now ≤ 4096 }
     requires parents { HaveAllParents stoch.now }
-    ensures ok { IfOk result (λ program. program ≡ program_with core.now periods.now stoch.now frame.now listed.now) }
-    ensures err { IfErr result (ByUnfit (HasUnfit (program_with core.now periods.now stoch.now frame.now listed.now))) }
+    ensures ok { IfOk result
+        (λ program. program ≡ program_with core.now periods.now stoch.now frame.now listed.now) }
+    ensures err { IfErr result
+        (ByUnfit (HasUnfit (program_with core.now periods.now stoch.now frame.now listed.now))) }
 {
     let columns = columns(alloc, core, periods, frame)?;
     let rows = rows(alloc, core, periods, frame)?;

@@ -32,7 +32,9 @@ pub fn row_places(
     requires options { OptionFacts options.now }
     requires columns { 0 < length core.now.columns }
     requires stoch { StochFacts core.now periods.now stoch.now }
-    ensures exact { IfOk result (λ places. places ≡ (frame_of (source_of core.now periods.now stoch.now options.now)).row_places) }
+    ensures exact { IfOk result
+        (λ places. places
+        ≡ (frame_of (source_of core.now periods.now stoch.now options.now)).row_places) }
     ensures few { IfOk result (λ places. All (λ p. p ≤ 9) places) }
     ensures whole { IfOk result (λ places. length places ≡ length core.now.rows) }
 {

@@ -41,7 +41,8 @@ fn places_by_element(alloc: Global, count: usize, drafts: &[Draft]) -> Result<Ve
 
 // The elements without their realisations.
 fn empty_elements(alloc: Global, places: &[u8], periods: &[u8]) -> Result<Vec<Element>, AllocError>
-    ensures { IfOk result (λ elements. elements.items ≡ elements_so_far periods.now places.now [] (length periods.now)) }
+    ensures { IfOk result
+        (λ elements. elements.items ≡ elements_so_far periods.now places.now [] (length periods.now)) }
 {
     let mut elements = Vec::new(alloc);
     for period in periods {
@@ -90,7 +91,9 @@ fn filled_elements(
     requires enough { All (AreEnough places.now) drafts.items }
     requires most { All (AreFew places.now) drafts.items }
     requires probable { All (λ draft. IsProbable draft.probability) drafts.items }
-    ensures { IfOk result (λ elements. elements.items ≡ elements_so_far periods.now places.now drafts.items (length periods.now)) }
+    ensures { IfOk result
+        (λ elements. elements.items
+        ≡ elements_so_far periods.now places.now drafts.items (length periods.now)) }
 {
     let mut elements = empty_elements(alloc, places, periods)?;
     for draft in drafts {

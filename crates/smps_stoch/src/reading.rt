@@ -22,7 +22,8 @@ pub fn read_stoch(
     periods: &Periods,
 ) -> Result<Stoch, StochFault>
     ensures facts { IfOk result (λ stoch. StochFacts core.now periods.now stoch) }
-    ensures meaning { Gives (MayRefuse bytes.now) result (stoch_meaning core.now periods.now bytes.now) }
+    ensures meaning { Gives (MayRefuse bytes.now) result
+        (stoch_meaning core.now periods.now bytes.now) }
 {
     let state = match read_state(alloc, bytes, core, periods) {
         Ok(state) => state,

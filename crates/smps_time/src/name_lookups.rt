@@ -4,26 +4,12 @@ ghost use Rattle.std.specs.Str.{bytes_eq};
 ghost use Rattle.line_core.specs.Fields.{span_text};
 ghost use Rattle.line_core.specs.Names.{number_of};
 ghost use Rattle.smps_words.specs.CoreFacts.{max_columns, max_rows};
-ghost use Rattle.smps_words.specs.TextLines.{is_header, text_of};
+ghost use Rattle.smps_words.specs.TextLines.{text_of};
 ghost use Rattle.smps_time.specs.TimeAnswers.{names_of};
 ghost use Rattle.smps_time.specs.TimeFile.{column_named, place_named, says_explicit};
 
 use line_core::{Names, Span};
-use smps_words::{Core, FileLine};
-
-/// Whether two texts are the same.
-pub fn same(a: &[u8], b: &[u8]) -> bool
-    ensures { result ≡ bytes_eq a.now b.now }
-{
-    a == b
-}
-
-/// Whether a line is a header that begins with this word.
-pub fn is_header(line: &FileLine, word: &[u8]) -> bool
-    ensures { result ≡ is_header word.now (text_of line.now) }
-{
-    line.line.header && same(line.field(0), word)
-}
+use smps_words::{Core, FileLine, same};
 
 fn is_among(bytes: &[u8], spans: &[Span], word: &[u8]) -> bool
     ensures { result ≡ list_any (λ span. bytes_eq (span_text bytes.now span) word.now) spans.now }

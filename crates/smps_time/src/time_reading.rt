@@ -7,10 +7,10 @@ ghost use Rattle.smps_time.specs.Reading.{before_in, GoesTo, IsPeriodOf, Keeps, 
 ghost use Rattle.smps_time.specs.TimeAnswers.{names_of};
 ghost use Rattle.smps_time.specs.TimeFile.{end_fault, header_fault, is_after_last, is_in_order, period_fault};
 
-use crate::name_lookups::{column_named, is_header, place_named, same, says_explicit};
+use crate::name_lookups::{column_named, place_named, says_explicit};
 use crate::time_fault::{TimeFault, TimeKind};
 use line_core::Names;
-use smps_words::{Core, FileLine};
+use smps_words::{Core, FileLine, same};
 use std::alloc::Global;
 use wide_num::List;
 
@@ -42,7 +42,8 @@ fn is_after_last(numbers: &[u32], number: u32) -> bool
 impl Reading {
     /// What no lines say. It takes no memory.
     pub fn new(alloc: Global) -> Reading
-        ensures { result ≡ record { begun = false; opened = false; names = []; columns = []; places = [] } }
+        ensures { result
+            ≡ record { begun = false; opened = false; names = []; columns = []; places = [] } }
     {
         Reading {
             begun: false,
@@ -170,8 +171,8 @@ impl Reading {
             return Err(kind);
         }
         self.begun = true;
-        self.opened = self.opened || is_header(line, b"PERIODS");
-        Ok(is_header(line, b"ENDATA"))
+        self.opened = self.opened || line.is_header(b"PERIODS");
+        Ok(line.is_header(b"ENDATA"))
     }
 
     /// Goes on with a line, and answers whether it ends the file. A fault is

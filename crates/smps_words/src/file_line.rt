@@ -1,7 +1,15 @@
 ghost use Rattle.std.specs.Prelude.{◌≡◌, length};
-ghost use Rattle.smps_words.specs.TextLines.{field, text_of};
+ghost use Rattle.std.specs.Str.{bytes_eq};
+ghost use Rattle.smps_words.specs.TextLines.{field, is_header, text_of};
 
 use line_core::Line;
+
+/// Whether two texts are the same.
+pub fn same(a: &[u8], b: &[u8]) -> bool
+    ensures { result ≡ bytes_eq a.now b.now }
+{
+    a == b
+}
 
 /// A line of a file with the bytes of the file.
 #[derive(Clone, Copy)]
@@ -24,5 +32,12 @@ impl<'a> FileLine<'a> {
         ensures { result ≡ length (text_of self.now).fields }
     {
         self.line.fields.len()
+    }
+
+    /// Whether it is a header that begins with this word.
+    pub fn is_header(&self, word: &[u8]) -> bool
+        ensures { result ≡ is_header word.now (text_of self.now) }
+    {
+        self.line.header && same(self.field(0), word)
     }
 }

@@ -68,7 +68,8 @@ pub fn core_draft(alloc: Global, program: &Program) -> Result<Draft, AllocError>
 impl Draft {
     // Puts a change in its place.
     fn apply(&mut self, change: &Change) -> Result<(), AllocError>
-        requires { is_change (length self.old.limits.items) (length self.old.costs.items) change.now ≡ true }
+        requires { is_change (length self.old.limits.items) (length self.old.costs.items) change.now
+            ≡ true }
         ensures { OnOk result (data_in self.new ≡ with_change (data_in self.old) change.now) }
     {
         match change {
@@ -98,7 +99,8 @@ impl Draft {
 /// The data of a scenario: the core's, with each change of the scenario in its
 /// place.
 pub fn drafted(alloc: Global, program: &Program, scenario: &Scenario) -> Result<Draft, AllocError>
-    requires { All (λ c. is_change (length program.now.rows) (length program.now.columns) c ≡ true) scenario.now.changes }
+    requires { All (λ c. is_change (length program.now.rows) (length program.now.columns) c ≡ true)
+        scenario.now.changes }
     ensures { IfOk result (λ draft. data_in draft ≡ data_of program.now scenario.now) }
 {
     let mut draft = core_draft(alloc, program)?;

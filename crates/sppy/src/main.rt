@@ -4,15 +4,19 @@
 //! with the same words what the files make.
 #![tactic(auto)]
 
-ghost use Rattle.std.specs.Prelude.{◌≡◌, ◌≢◌, IfErr, IfOk, OnErr, drop};
+ghost use Rattle.std.specs.Prelude.{◌≡◌, ◌≢◌, ◌↔◌, IfErr, IfOk, None, OnErr, drop, map, string_bytes};
 ghost use Rattle.std.specs.Process.{exit_status};
-ghost use Rattle.io_edge.specs.Faults.{CountsTo};
-ghost use Rattle.io_edge.specs.Sinks.{AppendsFront};
+ghost use Rattle.io_edge.specs.Faults.{Counts, CountsTo, edge_fault};
+ghost use Rattle.io_edge.specs.Sinks.{PutLeaves};
+ghost use Rattle.run_words.specs.Words.{command_of};
+ghost use Rattle.sppy_cli.specs.Complete.{Completes, Refuses};
+ghost use Rattle.sppy_cli.specs.Desk.{Answers};
+ghost use Rattle.sppy_cli.specs.InTurn.{LoadsNames};
 ghost use Rattle.sppy_cli.specs.Statuses.{code_of, read_fault_of, status_line, write_fault_of};
 ghost use Rattle.sppy.specs.Given.{IsOfWords};
 ghost use Rattle.std.specs.Vec.Iter.{into_iter_items};
 
-use io_edge::{FileShelf, OutSink, Shelf, Sink};
+use io_edge::{EdgeFault, FileShelf, OutSink, Shelf, Sink};
 use sppy_cli::{Status, desk, report};
 use std::alloc::Global;
 use std::env::Args;
@@ -57,7 +61,7 @@ fn given_words(rt: &HostRuntime) -> Result<Vec<String>, Status>
 }
 
 // Runs the command where words were given, else answers why not, and then
-// nothing is loaded or written.
+// nothing is loaded or written. The clauses on given words are those of `desk`.
 fn run_command<S: Shelf, K: Sink>(
     alloc: Global,
     given: Result<Vec<String>, Status>,
@@ -68,6 +72,18 @@ fn run_command<S: Shelf, K: Sink>(
     ensures refused { IfErr given (λ status. result ≡ status) }
     ensures shelf { OnErr given (shelf.new ≡ shelf.old) }
     ensures out { OnErr given (out.new ≡ out.old) }
+    ensures words { IfOk given (λ words. (result ≡ Status.Words)
+        ↔ (command_of (map string_bytes words.items) ≡ None)) }
+    ensures answers { IfOk given (λ words. Answers (S.files shelf.old)
+        (command_of (map string_bytes words.items)) (K.written out.old) (K.written out.new) result) }
+    ensures refuses { IfOk given (λ words. Refuses (S.files shelf.old)
+        (command_of (map string_bytes words.items)) result) }
+    ensures complete { IfOk given (λ words. Completes (S.files shelf.old)
+        (command_of (map string_bytes words.items)) (S.count shelf.old) (S.count shelf.new)
+        (K.count out.old) (K.count out.new) result) }
+    ensures names { IfOk given (λ words. LoadsNames (S.files shelf.old)
+        (command_of (map string_bytes words.items)) (S.names shelf.old) (S.names shelf.new) result) }
+    ensures files { S.files shelf.new ≡ S.files shelf.old }
     ensures reads { CountsTo (S.count shelf.old) (S.count shelf.new) (read_fault_of result) }
     ensures writes { CountsTo (K.count out.old) (K.count out.new) (write_fault_of result) }
 {
@@ -77,13 +93,16 @@ fn run_command<S: Shelf, K: Sink>(
     }
 }
 
-// Writes the line of a status, or a front of it where that fails, and gives its exit code.
-fn finish<K: Sink>(alloc: Global, status: &Status, err: &mut K) -> ExitCode
-    ensures code { exit_status result ≡ code_of status.now }
-    ensures line { AppendsFront (K.written err.old) (K.written err.new) (status_line status.now) }
+// Writes the line of a status. Gives its exit code, and what became of the line: it was
+// written whole, or a put failed and was counted, or memory was refused.
+fn finish<K: Sink>(alloc: Global, status: &Status, err: &mut K) -> (ExitCode, Result<(), EdgeFault>)
+    ensures code { exit_status result.0 ≡ code_of status.now }
+    ensures line { PutLeaves (K.written err.old) (K.written err.new) (status_line status.now) result.1 }
+    ensures done { OnErr result.1 (status.now ≢ Status.Done) }
+    ensures count { Counts (K.count err.old) (K.count err.new) (edge_fault result.1) }
 {
-    let _ = report(alloc, status, err);
-    exit_code(status)
+    let told = report(alloc, status, err);
+    (exit_code(status), told)
 }
 
 // The exit code of a status.
@@ -99,5 +118,6 @@ fn main(rt: HostRuntime) -> ExitCode {
     let mut err = OutSink::new(rt.stderr());
     let given = given_words(&rt);
     let status = run_command(rt.alloc(), given, &mut shelf, &mut out);
-    finish(rt.alloc(), &status, &mut err)
+    let (code, _told) = finish(rt.alloc(), &status, &mut err);
+    code
 }

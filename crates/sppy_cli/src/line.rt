@@ -32,7 +32,10 @@ fn count_line(alloc: Global, word: &[u8], n: u64) -> Result<Text, AllocError>
 
 // The line of a scenario, counted from 1, that used up its budget.
 fn spent_line(alloc: Global, scenario: u64, opened: u64) -> Result<Text, AllocError>
-    ensures { IfOk result (λ line. line ≡ line_of (codes "sppy: spent " ++ decimal scenario ++ codes " opened " ++ decimal opened)) }
+    ensures { IfOk result
+        (λ line. line
+        ≡ line_of
+        (codes "sppy: spent " ++ decimal scenario ++ codes " opened " ++ decimal opened)) }
 {
     let mut line = Vec::new(alloc);
     put_count(&mut line, b"sppy: spent ", scenario)?;

@@ -111,7 +111,8 @@ pub fn load_stoch<S: Shelf>(
     core: &Core,
     periods: &Periods,
 ) -> Result<Stoch, FileFault>
-    ensures gives { Loads (stoch_file core.now periods.now) ShowsStoch (S.files shelf.old) name.now result }
+    ensures gives { Loads (stoch_file core.now periods.now) ShowsStoch (S.files shelf.old) name.now
+        result }
     ensures beside { IfOk result (λ stoch. StochFacts core.now periods.now stoch) }
     ensures files { S.files shelf.new ≡ S.files shelf.old }
     ensures names { LoadsName name.now (S.names shelf.old) (S.names shelf.new) result }

@@ -32,7 +32,8 @@ pub fn put_lines<K: Sink>(out: &mut K, lines: &List<Text>) -> Result<(), Status>
 /// Writes the heading of a run. Where a put fails or memory is refused, a front
 /// of it is written, and the answer is the status of the command.
 pub fn put_heading<K: Sink>(alloc: Global, out: &mut K, instance: &Instance) -> Result<(), Status>
-    ensures text { PutsText (heading_text instance.now) (K.written out.old) (K.written out.new) result }
+    ensures text { PutsText (heading_text instance.now) (K.written out.old) (K.written out.new)
+        result }
     ensures count { CountsTo (K.count out.old) (K.count out.new) (reported write_fault_of result) }
 {
     let Ok(lines) = heading_lines(alloc, &instance.triple.core, &instance.run) else {

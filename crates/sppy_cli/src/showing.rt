@@ -19,7 +19,8 @@ use wide_num::List;
 
 // Writes a line for each column.
 fn put_columns<K: Sink>(alloc: Global, out: &mut K, instance: &Instance) -> Result<(), Status>
-    ensures text { PutsText (concat (column_lines_of instance.now.triple.core instance.now.run)) (K.written out.old) (K.written out.new) result }
+    ensures text { PutsText (concat (column_lines_of instance.now.triple.core instance.now.run))
+        (K.written out.old) (K.written out.new) result }
     ensures count { CountsTo (K.count out.old) (K.count out.new) (reported write_fault_of result) }
 {
     let Ok(lines) = column_lines(alloc, &instance.triple.core, &instance.run) else {
@@ -46,7 +47,9 @@ fn places(alloc: Global, instance: &Instance) -> Result<List<u8>, AllocError>
 // Writes a line for each row.
 fn put_rows<K: Sink>(alloc: Global, out: &mut K, instance: &Instance) -> Result<(), Status>
     requires { KeepsFacts instance.now.triple }
-    ensures text { PutsText (concat (row_lines_of instance.now.triple.core instance.now.run (places_of instance.now))) (K.written out.old) (K.written out.new) result }
+    ensures text { PutsText
+        (concat (row_lines_of instance.now.triple.core instance.now.run (places_of instance.now)))
+        (K.written out.old) (K.written out.new) result }
     ensures count { CountsTo (K.count out.old) (K.count out.new) (reported write_fault_of result) }
 {
     let Ok(places) = places(alloc, instance) else {
@@ -71,7 +74,8 @@ fn put_scenario<K: Sink>(
     s: u32,
 ) -> Result<(), Status>
     requires { s < scenarios instance.now.run }
-    ensures text { PutsText (concat (scenario_lines_of instance.now.triple.core instance.now.run s)) (K.written out.old) (K.written out.new) result }
+    ensures text { PutsText (concat (scenario_lines_of instance.now.triple.core instance.now.run s))
+        (K.written out.old) (K.written out.new) result }
     ensures count { CountsTo (K.count out.old) (K.count out.new) (reported write_fault_of result) }
 {
     let Ok(lines) = scenario_lines(alloc, &instance.triple.core, &instance.run, s) else {
@@ -82,7 +86,8 @@ fn put_scenario<K: Sink>(
 
 // Writes the lines of all scenarios, those of one after those of another.
 fn put_scenarios<K: Sink>(alloc: Global, out: &mut K, instance: &Instance) -> Result<(), Status>
-    ensures text { PutsText (concat (all_scenario_lines instance.now.triple.core instance.now.run)) (K.written out.old) (K.written out.new) result }
+    ensures text { PutsText (concat (all_scenario_lines instance.now.triple.core instance.now.run))
+        (K.written out.old) (K.written out.new) result }
     ensures count { CountsTo (K.count out.old) (K.count out.new) (reported write_fault_of result) }
 {
     for s in 0..instance.run.program.scenarios.len() {

@@ -11,7 +11,8 @@ use wide_num::{List, Text};
 pub fn write_lines<K: Sink>(out: &mut K, lines: &List<Text>) -> Result<(), EdgeFault>
     requires { AreFull lines.now }
     ensures ok { OnOk result (K.written out.new ≡ appended (K.written out.old) (concat lines.now)) }
-    ensures err { OnErr result (AppendsFront (K.written out.old) (K.written out.new) (concat lines.now)) }
+    ensures err { OnErr result
+        (AppendsFront (K.written out.old) (K.written out.new) (concat lines.now)) }
     ensures count { Counts (K.count out.old) (K.count out.new) (edge_fault result) }
 {
     for line in lines.as_slice() {

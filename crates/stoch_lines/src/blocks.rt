@@ -31,7 +31,8 @@ struct BlockFields {
 }
 
 fn fields_of(periods: &Periods, line: &FileLine<'_>) -> Result<BlockFields, StochKind>
-    ensures { Passes (block_form periods.now (text_of line.now)) result (λ f. AreBlockFields periods.now (text_of line.now) f.period f.probability) }
+    ensures { Passes (block_form periods.now (text_of line.now)) result
+        (λ f. AreBlockFields periods.now (text_of line.now) f.period f.probability) }
 {
     if line.count() != 4 {
         return Err(StochKind::Fields);
@@ -83,7 +84,8 @@ impl State {
     }
 
     fn begin_realisation(&mut self, name: &[u8], saying: &Saying) -> Result<(), AllocError>
-        ensures { OnOk result (before_in self.new ≡ with_saying (with_block (before_in self.old) name.now) saying.now) }
+        ensures { OnOk result
+            (before_in self.new ≡ with_saying (with_block (before_in self.old) name.now) saying.now) }
     {
         add_name(&mut self.blocks, name)?;
         self.add_realisation(saying)
@@ -94,7 +96,8 @@ impl State {
         requires section { self.old.section ≡ Some Blocks }
         requires data { line.now.line.now.header ≡ false }
         requires word { begins_block (text_of line.now) ≡ true }
-        ensures { (core : Core) → Adds core periods.now (block_fault periods.now) self.old line.now result self.new }
+        ensures { (core : Core) →
+            Adds core periods.now (block_fault periods.now) self.old line.now result self.new }
     {
         let fields = match fields_of(periods, line) {
             Ok(fields) => fields,
@@ -122,7 +125,10 @@ impl State {
         choice: usize,
         pairs: &Pairs,
     ) -> Result<(), AllocError>
-        ensures { OnOk result (before_in self.new ≡ with_entries (before_in self.old) (map (owned_by element choice) (pair_entries pairs.now))) }
+        ensures { OnOk result
+            (before_in self.new
+            ≡ with_entries (before_in self.old)
+            (map (owned_by element choice) (pair_entries pairs.now))) }
     {
         self.entries.push(Owned {
             element,
@@ -151,7 +157,9 @@ impl State {
     }
 
     fn one_is_taken(&self, pairs: &Pairs) -> bool
-        ensures { result ≡ list_any (is_taken self.now.entries (last_element self.now.realisations)) (pair_places pairs.now) }
+        ensures { result
+            ≡ list_any (is_taken self.now.entries (last_element self.now.realisations))
+            (pair_places pairs.now) }
     {
         let element = self.last_element();
         match pairs.second {
@@ -182,7 +190,8 @@ impl State {
         requires section { self.old.section ≡ Some Blocks }
         requires data { line.now.line.now.header ≡ false }
         requires word { begins_block (text_of line.now) ≡ false }
-        ensures { Adds core.now periods.now (block_data_fault core.now periods.now) self.old line.now result self.new }
+        ensures { Adds core.now periods.now (block_data_fault core.now periods.now) self.old
+            line.now result self.new }
     {
         let pairs = match pairs_of(core, line) {
             Ok(pairs) => pairs,

@@ -2,7 +2,7 @@ ghost use Rattle.std.specs.Prelude.{◌≡◌, ◌≤◌, ◌||◌, Some, codes}
 ghost use Rattle.std.specs.Str.{bytes_eq};
 ghost use Rattle.smps_words.specs.NumberFields.{number_in};
 ghost use Rattle.smps_words.specs.Tables.{Passes};
-ghost use Rattle.smps_words.specs.TextLines.{field, text_of, is_header};
+ghost use Rattle.smps_words.specs.TextLines.{field, text_of};
 ghost use Rattle.stoch_lines.specs.Faults.{number_kind, number_fault, is_probability, probability_fault, period_fault, is_root};
 ghost use Rattle.stoch_lines.specs.Sayings.{last_field, begins_block, begins_scenario};
 ghost use Rattle.stoch_lines.specs.declared.kinds.StochFault.TheVariants as faults;
@@ -10,7 +10,7 @@ ghost use Rattle.stoch_lines.specs.Places.{period_of};
 
 use crate::kinds::{StochFault, StochKind};
 use dec_core::{DecFault, Decimal, read};
-use smps_words::{FileLine, Periods};
+use smps_words::{FileLine, Periods, same};
 
 /// A fault of this kind at a line.
 pub fn fault_at(line: &FileLine<'_>, kind: StochKind) -> StochFault
@@ -20,20 +20,6 @@ pub fn fault_at(line: &FileLine<'_>, kind: StochKind) -> StochFault
         line: line.line.number,
         kind,
     }
-}
-
-/// Whether two texts are the same.
-pub fn same(a: &[u8], b: &[u8]) -> bool
-    ensures { result ≡ bytes_eq a.now b.now }
-{
-    a == b
-}
-
-/// Whether a line is a header that begins with this word.
-pub fn is_header(line: &FileLine<'_>, word: &[u8]) -> bool
-    ensures { result ≡ is_header word.now (text_of line.now) }
-{
-    line.line.header && same(line.field(0), word)
 }
 
 /// Whether a line's first field is the word that begins a realisation.
@@ -68,7 +54,7 @@ fn kind_of(fault: DecFault) -> StochKind
 }
 
 /// The number of a field, or its fault.
-pub fn number_of(text: &[u8]) -> Result<Decimal, StochKind>
+pub fn number_of_text(text: &[u8]) -> Result<Decimal, StochKind>
     ensures { Passes (number_fault text.now) result (λ d. (d ≡ number_in text.now) × (d.places ≤ 9)) }
 {
     match read(text) {
@@ -89,7 +75,7 @@ fn is_probability(number: Decimal) -> bool
 pub fn probability_of(text: &[u8]) -> Result<Decimal, StochKind>
     ensures { Passes (probability_fault text.now) result (λ d. d ≡ number_in text.now) }
 {
-    let number = number_of(text)?;
+    let number = number_of_text(text)?;
     if !is_probability(number) {
         return Err(StochKind::Weight);
     }
@@ -108,7 +94,8 @@ pub fn period_of(periods: &Periods, name: &[u8]) -> Option<u8>
 
 /// The number of the period that a field names, or its fault.
 pub fn known_period(periods: &Periods, name: &[u8]) -> Result<u8, StochKind>
-    ensures { Passes (period_fault periods.now name.now) result (λ p. Some p ≡ period_of periods.now name.now) }
+    ensures { Passes (period_fault periods.now name.now) result
+        (λ p. Some p ≡ period_of periods.now name.now) }
 {
     match period_of(periods, name) {
         Some(period) => Ok(period),

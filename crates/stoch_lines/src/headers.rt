@@ -7,11 +7,11 @@ ghost use Rattle.stoch_lines.specs.Faults.{has_both_modes, has_mode, has_one_mod
 ghost use Rattle.stoch_lines.specs.Sayings.{heading_of};
 ghost use Rattle.stoch_lines.specs.Turns.{before_in, Steps};
 
-use crate::fields::{fault_at, is_header, same};
+use crate::fields::fault_at;
 use crate::heading::Heading;
 use crate::kinds::{StochFault, StochKind};
 use crate::state::State;
-use smps_words::FileLine;
+use smps_words::{FileLine, same};
 
 fn heading_of(word: &[u8]) -> Option<Heading>
     ensures { result ≡ heading_of word.now }
@@ -71,15 +71,16 @@ fn section_rules(section: Option<Heading>, line: &FileLine<'_>) -> Result<(), St
 
 impl State {
     fn header_rules(&self, line: &FileLine<'_>) -> Result<(), StochKind>
-        ensures { Passes (header_fault (before_in self.now) (text_of line.now)) result (λ _. Unit {0}) }
+        ensures { Passes (header_fault (before_in self.now) (text_of line.now)) result
+            (λ _. Unit {0}) }
     {
-        if is_header(line, b"STOCH") {
+        if line.is_header(b"STOCH") {
             if !self.nothing {
                 return Err(StochKind::Section);
             }
             return Ok(());
         }
-        if is_header(line, b"ENDATA") {
+        if line.is_header(b"ENDATA") {
             if line.count() != 1 {
                 return Err(StochKind::Fields);
             }
@@ -91,7 +92,8 @@ impl State {
     /// A header; the answer is whether it ends the file.
     pub fn header_line(&mut self, line: &FileLine<'_>) -> Result<bool, StochFault>
         requires header { line.now.line.now.header ≡ true }
-        ensures { (core : Core) (periods : Periods) → Steps core periods (before_in self.old) (text_of line.now) result (before_in self.new) }
+        ensures { (core : Core) (periods : Periods) →
+            Steps core periods (before_in self.old) (text_of line.now) result (before_in self.new) }
     {
         if let Err(kind) = self.header_rules(line) {
             return Err(fault_at(line, kind));
@@ -99,6 +101,6 @@ impl State {
         self.nothing = false;
         self.section = heading_of(line.field(0));
         self.begun = false;
-        Ok(is_header(line, b"ENDATA"))
+        Ok(line.is_header(b"ENDATA"))
     }
 }

@@ -27,7 +27,8 @@ struct IndepFields {
 }
 
 fn named_of(periods: &Periods, line: &FileLine<'_>) -> Result<Option<u8>, StochKind>
-    ensures { Passes (named_fault periods.now (text_of line.now)) result (λ n. n ≡ named_period periods.now (text_of line.now)) }
+    ensures { Passes (named_fault periods.now (text_of line.now)) result
+        (λ n. n ≡ named_period periods.now (text_of line.now)) }
 {
     if line.count() != 5 {
         return Ok(None);
@@ -37,7 +38,8 @@ fn named_of(periods: &Periods, line: &FileLine<'_>) -> Result<Option<u8>, StochK
 }
 
 fn fields_of(core: &Core, periods: &Periods, line: &FileLine<'_>) -> Result<IndepFields, StochKind>
-    ensures { Passes (indep_form core.now periods.now (text_of line.now)) result (λ f. AreIndepFields core.now periods.now (text_of line.now) f.entry f.named f.probability) }
+    ensures { Passes (indep_form core.now periods.now (text_of line.now)) result
+        (λ f. AreIndepFields core.now periods.now (text_of line.now) f.entry f.named f.probability) }
 {
     let count = line.count();
     if count != 4 && count != 5 {
@@ -54,7 +56,8 @@ fn fields_of(core: &Core, periods: &Periods, line: &FileLine<'_>) -> Result<Inde
 }
 
 fn saying_of(periods: &Periods, fields: &IndepFields) -> Saying
-    ensures { result ≡ saying_at periods.now fields.now.entry.place fields.now.named fields.now.probability }
+    ensures { result
+        ≡ saying_at periods.now fields.now.entry.place fields.now.named fields.now.probability }
 {
     let place = fields.entry.place;
     Saying {
@@ -73,7 +76,9 @@ fn rules(
     fields: &IndepFields,
     saying: &Saying,
 ) -> Result<(), StochKind>
-    ensures { Passes (indep_rules periods.now (before_in state.now) fields.now.entry.place fields.now.named saying.now) result (λ _. Unit {0}) }
+    ensures { Passes
+        (indep_rules periods.now (before_in state.now) fields.now.entry.place fields.now.named
+        saying.now) result (λ _. Unit {0}) }
 {
     let place = fields.entry.place;
     let period = state.own_period(saying);
@@ -95,7 +100,8 @@ fn rules(
 
 impl State {
     fn add_single(&mut self, saying: &Saying, entry: StochEntry) -> Result<(), AllocError>
-        ensures { OnOk result (before_in self.new ≡ with_single (before_in self.old) saying.now entry) }
+        ensures { OnOk result
+            (before_in self.new ≡ with_single (before_in self.old) saying.now entry) }
     {
         let element = self.sources.element_of(saying.source);
         let choice = self.realisations.len();
@@ -116,7 +122,8 @@ impl State {
     ) -> Result<(), StochFault>
         requires section { self.old.section ≡ Some Indep }
         requires data { line.now.line.now.header ≡ false }
-        ensures { Adds core.now periods.now (indep_fault core.now periods.now) self.old line.now result self.new }
+        ensures { Adds core.now periods.now (indep_fault core.now periods.now) self.old line.now
+            result self.new }
     {
         let fields = match fields_of(core, periods, line) {
             Ok(fields) => fields,

@@ -8,7 +8,7 @@ ghost use Rattle.stoch_lines.specs.Sayings.{entry_at, entries_at};
 ghost use Rattle.stoch_lines.specs.Turns.{pair_entries, pair_places};
 
 use crate::entries::Entries;
-use crate::fields::number_of;
+use crate::fields::number_of_text;
 use crate::kinds::StochKind;
 use crate::place_words::{anticipates, place_at, same_place, stage_of};
 use crate::places::{StochEntry, StochPlace};
@@ -24,12 +24,13 @@ pub struct Pairs {
 /// The entry of the row in a line's field `k` and the value behind it.
 pub fn pair_of(core: &Core, k: usize, line: &FileLine<'_>) -> Result<StochEntry, StochKind>
     requires { k ≤ 3 }
-    ensures { Passes (pair_fault core.now k (text_of line.now)) result (λ e. e ≡ entry_at core.now k (text_of line.now)) }
+    ensures { Passes (pair_fault core.now k (text_of line.now)) result
+        (λ e. e ≡ entry_at core.now k (text_of line.now)) }
 {
     let Some(place) = place_at(core, k, line) else {
         return Err(StochKind::Unknown);
     };
-    let value = number_of(line.field(k + 1))?;
+    let value = number_of_text(line.field(k + 1))?;
     Ok(StochEntry {
         place,
         value,
@@ -39,7 +40,8 @@ pub fn pair_of(core: &Core, k: usize, line: &FileLine<'_>) -> Result<StochEntry,
 
 /// The entries of a line with one or two pairs.
 pub fn pairs_of(core: &Core, line: &FileLine<'_>) -> Result<Pairs, StochKind>
-    ensures { Passes (pairs_fault core.now (text_of line.now)) result (λ p. pair_entries p ≡ entries_at core.now (text_of line.now)) }
+    ensures { Passes (pairs_fault core.now (text_of line.now)) result
+        (λ p. pair_entries p ≡ entries_at core.now (text_of line.now)) }
 {
     let count = line.count();
     if count != 3 && count != 5 {
@@ -66,7 +68,8 @@ fn one_anticipates(periods: &Periods, pairs: &Pairs) -> bool
 }
 
 fn one_is_early(periods: &Periods, earliest: u8, pairs: &Pairs) -> bool
-    ensures { result ≡ list_any (λ place. nat_lt (stage_of periods.now place) earliest) (pair_places pairs.now) }
+    ensures { result
+        ≡ list_any (λ place. nat_lt (stage_of periods.now place) earliest) (pair_places pairs.now) }
 {
     match pairs.second {
         Some(second) => {
@@ -85,7 +88,8 @@ pub fn places_rules(
     twice: bool,
     pairs: &Pairs,
 ) -> Result<(), StochKind>
-    ensures { Passes (places_rules periods.now earliest twice (pair_places pairs.now)) result (λ _. Unit {0}) }
+    ensures { Passes (places_rules periods.now earliest twice (pair_places pairs.now)) result
+        (λ _. Unit {0}) }
 {
     if one_anticipates(periods, pairs) {
         return Err(StochKind::Anticipates);

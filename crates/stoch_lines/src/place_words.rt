@@ -3,9 +3,8 @@ ghost use Rattle.smps_words.specs.TextLines.{text_of};
 ghost use Rattle.stoch_lines.specs.Places.{place_in_column, place_on_right, is_right_name, place_of, same_place, stage_of, anticipates};
 ghost use Rattle.stoch_lines.specs.Sayings.{place_at};
 
-use crate::fields::same;
 use crate::places::StochPlace;
-use smps_words::{Core, FileLine, Periods};
+use smps_words::{Core, FileLine, Periods, same};
 
 fn place_in_column(core: &Core, column: u32, row: &[u8]) -> Option<StochPlace>
     ensures { result ≡ place_in_column core.now column row.now }

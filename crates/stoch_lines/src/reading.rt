@@ -43,7 +43,8 @@ fn read_lines(
     core: &Core,
     periods: &Periods,
 ) -> Result<State, StochFault>
-    ensures { Gives (AreSome lines.now) result (stepped_meaning core.now periods.now bytes.now lines.now) }
+    ensures { Gives (AreSome lines.now) result
+        (stepped_meaning core.now periods.now bytes.now lines.now) }
 {
     let mut state = State::new(alloc);
     for line in lines {

@@ -27,7 +27,8 @@ struct Numbers {
 }
 
 fn numbers_of(periods: &Periods, line: &FileLine<'_>) -> Result<Numbers, StochKind>
-    ensures { Passes (scenario_numbers periods.now (text_of line.now)) result (λ n. AreScenarioNumbers periods.now (text_of line.now) n.probability n.period) }
+    ensures { Passes (scenario_numbers periods.now (text_of line.now)) result
+        (λ n. AreScenarioNumbers periods.now (text_of line.now) n.probability n.period) }
 {
     let probability = probability_of(line.field(3))?;
     let period = known_period(periods, line.field(4))?;
@@ -57,7 +58,8 @@ impl State {
     }
 
     fn scenario_form(&self, line: &FileLine<'_>) -> Result<(), StochKind>
-        ensures { Passes (scenario_form (before_in self.now) (text_of line.now)) result (λ _. length self.now.names < max_scenarios) }
+        ensures { Passes (scenario_form (before_in self.now) (text_of line.now)) result
+            (λ _. length self.now.names < max_scenarios) }
     {
         if line.count() != 5 {
             return Err(StochKind::Fields);
@@ -72,7 +74,8 @@ impl State {
     }
 
     fn scenario_of(&self, periods: &Periods, line: &FileLine<'_>) -> Result<ScenarioHead, StochKind>
-        ensures { Passes (scenario_fault periods.now (before_in self.now) (text_of line.now)) result (λ s. IsNewScenario periods.now (before_in self.now) (text_of line.now) s) }
+        ensures { Passes (scenario_fault periods.now (before_in self.now) (text_of line.now)) result
+            (λ s. IsNewScenario periods.now (before_in self.now) (text_of line.now) s) }
     {
         self.scenario_form(line)?;
         let numbers = numbers_of(periods, line)?;
@@ -89,7 +92,8 @@ impl State {
     fn add_scenario(&mut self, name: &[u8], scenario: ScenarioHead) -> Result<(), AllocError>
         requires few { length self.old.names < 2 ^ 32 }
         requires new { is_scenario (before_in self.old) name.now ≡ false }
-        ensures { OnOk result (before_in self.new ≡ with_scenario (before_in self.old) name.now scenario) }
+        ensures { OnOk result
+            (before_in self.new ≡ with_scenario (before_in self.old) name.now scenario) }
     {
         self.scenarios.push(scenario)?;
         match self.names.add(name) {
@@ -107,7 +111,8 @@ impl State {
         requires section { self.old.section ≡ Some Scenarios }
         requires data { line.now.line.now.header ≡ false }
         requires word { begins_scenario (text_of line.now) ≡ true }
-        ensures { (core : Core) → Adds core periods.now (scenario_fault periods.now) self.old line.now result self.new }
+        ensures { (core : Core) →
+            Adds core periods.now (scenario_fault periods.now) self.old line.now result self.new }
     {
         let scenario = match self.scenario_of(periods, line) {
             Ok(scenario) => scenario,
@@ -138,7 +143,8 @@ impl State {
         requires section { self.old.section ≡ Some Scenarios }
         requires data { line.now.line.now.header ≡ false }
         requires word { begins_scenario (text_of line.now) ≡ false }
-        ensures { Adds core.now periods.now (scenario_data_fault core.now periods.now) self.old line.now result self.new }
+        ensures { Adds core.now periods.now (scenario_data_fault core.now periods.now) self.old
+            line.now result self.new }
     {
         let pairs = match pairs_of(core, line) {
             Ok(pairs) => pairs,

@@ -19,7 +19,8 @@ impl State {
     ) -> Result<(), StochFault>
         requires section { self.old.section ≡ Some Blocks }
         requires data { line.now.line.now.header ≡ false }
-        ensures { Adds core.now periods.now (blocks_fault core.now periods.now) self.old line.now result self.new }
+        ensures { Adds core.now periods.now (blocks_fault core.now periods.now) self.old line.now
+            result self.new }
     {
         if begins_block(line) {
             return self.block_line(periods, line);
@@ -38,7 +39,8 @@ impl State {
     ) -> Result<(), StochFault>
         requires section { self.old.section ≡ Some Scenarios }
         requires data { line.now.line.now.header ≡ false }
-        ensures { Adds core.now periods.now (scenarios_fault core.now periods.now) self.old line.now result self.new }
+        ensures { Adds core.now periods.now (scenarios_fault core.now periods.now) self.old line.now
+            result self.new }
     {
         if begins_scenario(line) {
             return self.scenario_line(periods, line);
@@ -56,7 +58,8 @@ impl State {
         line: &FileLine<'_>,
     ) -> Result<(), StochFault>
         requires data { line.now.line.now.header ≡ false }
-        ensures { Adds core.now periods.now (data_fault core.now periods.now self.old.section) self.old line.now result self.new }
+        ensures { Adds core.now periods.now (data_fault core.now periods.now self.old.section)
+            self.old line.now result self.new }
     {
         match self.section {
             None => Err(fault_at(line, StochKind::Section)),
@@ -73,7 +76,8 @@ impl State {
         periods: &Periods,
         line: &FileLine<'_>,
     ) -> Result<bool, StochFault>
-        ensures { Steps core.now periods.now (before_in self.old) (text_of line.now) result (before_in self.new) }
+        ensures { Steps core.now periods.now (before_in self.old) (text_of line.now) result
+            (before_in self.new) }
     {
         if line.line.header {
             return self.header_line(line);

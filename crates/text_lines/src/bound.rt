@@ -9,7 +9,8 @@ use std::alloc::{AllocError, Global};
 use wide_num::{Fraction, List, Text, reduce};
 
 fn first_line(alloc: Global, bound: i128) -> Result<Text, AllocError>
-    ensures { IfOk result (λ text. text ≡ line_of (codes "first " ++ signed_decimal bound ++ codes " none")) }
+    ensures { IfOk result
+        (λ text. text ≡ line_of (codes "first " ++ signed_decimal bound ++ codes " none")) }
 {
     let mut line = Vec::new(alloc);
     put_number(&mut line, b"first ", bound)?;
@@ -18,7 +19,9 @@ fn first_line(alloc: Global, bound: i128) -> Result<Text, AllocError>
 }
 
 fn lower_line(alloc: Global, bound: i128, value: &Fraction) -> Result<Text, AllocError>
-    ensures { IfOk result (λ text. text ≡ line_of (codes "lower " ++ signed_decimal bound ++ codes " = " ++ text_of value.now)) }
+    ensures { IfOk result
+        (λ text. text
+        ≡ line_of (codes "lower " ++ signed_decimal bound ++ codes " = " ++ text_of value.now)) }
 {
     let text = value.text(alloc)?;
     let mut line = Vec::new(alloc);

@@ -38,7 +38,8 @@ fn core_line(alloc: Global, core: &Core, run: &Run) -> Result<Text, AllocError>
 }
 
 fn unit_line(alloc: Global, run: &Run) -> Result<Text, AllocError>
-    ensures { IfOk result (λ text. text ≡ line_of (codes "unit 1/" ++ signed_decimal (unit_of run.now))) }
+    ensures { IfOk result
+        (λ text. text ≡ line_of (codes "unit 1/" ++ signed_decimal (unit_of run.now))) }
 {
     let mut line = Vec::new(alloc);
     put_number(&mut line, b"unit 1/", unit(run))?;

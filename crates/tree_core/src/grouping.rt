@@ -18,7 +18,10 @@ fn single(alloc: Global, scenario: u32) -> Result<List<u32>, AllocError>
 // Appends the scenario to the group at a place.
 fn join(groups: &mut Vec<List<u32>>, place: usize, scenario: u32) -> Result<(), AllocError>
     requires { place < length groups.old.items }
-    ensures { OnOk result (groups.new.items ≡ slice_set groups.old.items place (slice_index_or groups.old.items place [] ++ scenario ∷ [])) }
+    ensures { OnOk result
+        (groups.new.items
+        ≡ slice_set groups.old.items place
+        (slice_index_or groups.old.items place [] ++ scenario ∷ [])) }
 {
     groups[place].push(scenario)
 }
@@ -42,7 +45,8 @@ pub fn groups_at(
     requires few { length owners.now < 2 ^ 32 }
     requires marked { All (λ marks. stage ≤ length marks) owners.now }
     requires counted { 1 ≤ stage }
-    ensures { IfOk result (λ made. made.items ≡ groups (mark_of owners.now stage) (length owners.now)) }
+    ensures { IfOk result
+        (λ made. made.items ≡ groups (mark_of owners.now stage) (length owners.now)) }
 {
     let mut places: HashMap<u32, usize> = HashMap::new(alloc);
     let mut groups: Vec<List<u32>> = Vec::new(alloc);

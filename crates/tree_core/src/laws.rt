@@ -8,11 +8,16 @@ ghost use Rattle.tree_core.specs.Nodes.{node_number, AreNestedNodes, IsNode, Pre
 /// scenario stands once, two scenarios share a node exactly where their marks
 /// are equal, nodes and their scenarios stand in order, and no node is empty.
 pub fn tree_of_marks()
-    ensures once { (stages : ℕ) (owners : List (List ℕ)) → StandOnce stages (length owners) (tree_of stages owners).nodes }
-    ensures shared { (stages : ℕ) (owners : List (List ℕ)) → ShareByMarks stages owners (tree_of stages owners).nodes }
-    ensures nodes { (stages : ℕ) (owners : List (List ℕ)) → All (IsNode stages (length owners)) (tree_of stages owners).nodes }
-    ensures ordered { (stages : ℕ) (owners : List (List ℕ)) → AllPairs Precedes (tree_of stages owners).nodes }
-    ensures few { (stages : ℕ) (owners : List (List ℕ)) → length (tree_of stages owners).nodes ≤ stages * length owners }
+    ensures once { (stages : ℕ) (owners : List (List ℕ)) →
+        StandOnce stages (length owners) (tree_of stages owners).nodes }
+    ensures shared { (stages : ℕ) (owners : List (List ℕ)) →
+        ShareByMarks stages owners (tree_of stages owners).nodes }
+    ensures nodes { (stages : ℕ) (owners : List (List ℕ)) →
+        All (IsNode stages (length owners)) (tree_of stages owners).nodes }
+    ensures ordered { (stages : ℕ) (owners : List (List ℕ)) →
+        AllPairs Precedes (tree_of stages owners).nodes }
+    ensures few { (stages : ℕ) (owners : List (List ℕ)) →
+        length (tree_of stages owners).nodes ≤ stages * length owners }
 {}
 
 /// Where equal marks at a stage are equal at the stage before, the scenarios of
