@@ -1,145 +1,100 @@
 #!/usr/bin/env bash
-# Times the reading of whole triples and their join, `smps_join::join`.
+# Times `show` and the reading half of `wait` on whole triples of the greatest sizes.
 #
-# It makes a core of 1024 rows and two triples over it of 4096 scenarios with
-# 1024 changes each, 2^22 in all: twelve blocks of two realisations, and a list
-# of scenarios one by one. A driver program loads the three files from disk by
-# `io_edge::FileShelf`, reads them and joins them. The table has the bytes of the
-# three files, the seconds for loading, for reading and for joining, and the most
-# memory that the program held. All seconds are seconds of a processor.
+# It makes triples of 4096 scenarios with 2^22 changes: twelve blocks of two
+# realisations, a list of scenarios one by one, and a list in which all take over
+# their changes; and triples of many entries: of few changes in each scenario, of
+# many new ones in a single scenario, of columns that leave the run, and of more
+# changes than there may be. A row that can't be met ends `wait` after the first
+# scenario, so that its time is that of loading, reading, joining and one problem.
+# The table has the bytes of the three files, and for each command its exit status,
+# seconds of a processor and the most memory that it held.
 #
-# Needs: rt, python3; some 100 MB of disk and 4 GB of memory.
-# Takes: some minutes where the crates are not proved yet, and half a minute.
-# Use: bench/join.sh
+# Needs: rt, python3; some 200 MB of disk and 4 GB of memory.
+# Takes: some minutes, besides the build of the program where it isn't built.
+# Use: bench/join.sh [PROGRAM]; without a program, that of `bin/sppy`.
 
 . "$(dirname "${BASH_SOURCE[0]}")/common.sh"
 
-build_driver bench_join io_edge wide_num smps_core smps_time smps_stoch sp_model smps_join <<'DRIVER'
-//! Times the reading and the join of the three files that its arguments name.
-#![tactic(auto)]
-
-use io_edge::{FileShelf, Shelf};
-use smps_core::read_core;
-use smps_join::join;
-use smps_stoch::read_stoch;
-use smps_time::read_time;
-use sp_model::Options;
-use std::time::CpuClock;
-use std::{env, io};
-
-const MOST: usize = 67_108_864;
-
-const OPTIONS: Options = Options {
-    scale: 1000,
-    rho: 1000,
-    iterations: 20,
-    ranks: 1,
-    lagrangian: 1,
-    xhat: 1,
-    candidates: 2,
-    mean: false,
-    gap: 0,
-    budget: 1000000,
-    missing: 1000000,
-};
-
-fn micros(rt: &HostRuntime, begun: std::time::Duration) -> io::Result<u128> {
-    Ok(rt.thread_cpu_time()?.saturating_sub(begun).as_micros())
-}
-
-fn time_triple(rt: &HostRuntime, names: (&str, &str, &str)) -> io::Result<()> {
-    let alloc = rt.alloc();
-    let mut shelf = FileShelf::new(rt);
-    let begun = rt.thread_cpu_time()?;
-    let Ok(core) = shelf.load(alloc, names.0, MOST) else {
-        return println!(rt; "not loaded");
-    };
-    let Ok(time) = shelf.load(alloc, names.1, MOST) else {
-        return println!(rt; "not loaded");
-    };
-    let Ok(stoch) = shelf.load(alloc, names.2, MOST) else {
-        return println!(rt; "not loaded");
-    };
-    let loading = micros(rt, begun)?;
-    let begun = rt.thread_cpu_time()?;
-    let Ok(core) = read_core(alloc, core.as_slice()) else {
-        return println!(rt; "core");
-    };
-    let Ok(periods) = read_time(alloc, time.as_slice(), &core) else {
-        return println!(rt; "time");
-    };
-    let Ok(stoch) = read_stoch(alloc, stoch.as_slice(), &core, &periods) else {
-        return println!(rt; "stoch");
-    };
-    let reading = micros(rt, begun)?;
-    if core.columns.len() == 0 {
-        return println!(rt; "no columns");
-    }
-    let begun = rt.thread_cpu_time()?;
-    let answer = join(alloc, &core, &periods, &stoch, &OPTIONS);
-    let joining = micros(rt, begun)?;
-    match answer {
-        Ok(run) => {
-            let scenarios = run.program.scenarios.len();
-            println!(rt; "{scenarios} {loading} {reading} {joining}")
-        }
-        Err(fault) => println!(rt; "{fault:?} {loading} {reading} {joining}"),
-    }
-}
-
-fn main(rt: HostRuntime) -> io::Result<()> {
-    let mut words = env::args(&rt)?;
-    let _program = words.next();
-    if let (Some(core), Some(time), Some(stoch)) = (words.next(), words.next(), words.next()) {
-        time_triple(&rt, (core.as_str(), time.as_str(), stoch.as_str()))?;
-    }
-    Ok(())
-}
-DRIVER
-
+program=${1-}
+if [ -z "$program" ]; then
+    small=$repository/examples/small/small
+    "$repository/bin/sppy" show "$small.cor" "$small.tim" "$small.sto" >"$work/small"
+    program=$repository/out/sppy
+fi
 print_machine
-python3 - "$driver" "$work" <<'PY'
+python3 - "$program" "$work" <<'PY'
 import os, pathlib, subprocess, sys
 
-driver, work = sys.argv[1], pathlib.Path(sys.argv[2])
-ROWS, SCENARIOS, BLOCKS = 1024, 4096, 12
-
-core = ["NAME BENCH", "ROWS", " N COST"] + [f" G R{i}" for i in range(ROWS)] + ["COLUMNS", " X COST 1"]
-for j in range(1000):
-    core += [f" Y{j} COST {j % 97}.5 R{(j * 7) % ROWS} 1", f" Y{j} R{(j * 7 + 1) % ROWS} 2.5"]
-core += ["RHS"] + [f" RHS R{i} {i % 13}" for i in range(ROWS)] + ["BOUNDS"] + [f" UP BND Y{j} 100" for j in range(1000)] + [" UP BND X 10", "ENDATA", ""]
-time = ["TIME BENCH", "PERIODS", " X COST T1", " Y0 R0 T2", "ENDATA", ""]
+program, work = sys.argv[1], pathlib.Path(sys.argv[2])
+SCENARIOS, ROWS, BLOCKS = 4096, 1023, 12
 
 
-def pairs(rows, value):
-    cells = [f"R{i} {value(i)}" for i in rows]
-    return [" RHS " + " ".join(cells[k : k + 2]) for k in range(0, len(cells), 2)]
+def core(columns, entries, idle=()):
+    """A core of X, Y0, Y1 .. and of R0, R1 .., with a last row that can't be met."""
+    lines = ["NAME BENCH", "ROWS", " N COST"] + [f" G R{i}" for i in range(ROWS)] + [" G LAST"]
+    lines += ["COLUMNS", " X COST 1 LAST 1"]
+    for j in range(columns):
+        lines += [f" Y{j} COST {j % 97}.5"] + [f" Y{j} R{i} {i % 7 + 1}" for i in entries(j)]
+    lines += ["RHS", " RHS LAST 1000"] + [f" RHS R{i} {i % 13}" for i in range(ROWS)]
+    lines += ["BOUNDS", " UP BND X 10"]
+    lines += [f" UP BND Y{j} {0 if j in idle else 100}" for j in range(columns)]
+    return lines + ["ENDATA", ""]
 
 
-blocks = ["STOCH BENCH", "BLOCKS DISCRETE"]
-for b in range(BLOCKS):
-    rows = range(b, ROWS, BLOCKS)
-    for r in range(2):
-        blocks += [f" BL B{b} T2 0.5"] + pairs(rows, lambda i: i % 13 + r)
-blocks += ["ENDATA", ""]
-listed = ["STOCH BENCH", "SCENARIOS DISCRETE"]
-for s in range(SCENARIOS):
-    listed += [f" SC S{s} ROOT 0.5 T2"] + pairs(range(ROWS), lambda i: (i * s) % 17)
-listed += ["ENDATA", ""]
+def blocks():
+    lines = ["STOCH BENCH", "BLOCKS DISCRETE"]
+    for b in range(BLOCKS):
+        for r in range(2):
+            lines += [f" BL B{b} T2 0.5"] + [f" Y0 COST {r}.5"] * (b == 0)
+            lines += [f" RHS R{i} {i % 13 + r}" for i in range(b, ROWS, BLOCKS)]
+    return lines + ["ENDATA", ""]
 
-(work / "core").write_text("\n".join(core))
-(work / "time").write_text("\n".join(time))
-print(f"{'triple':<12}{'bytes':>12}{'loading s':>12}{'reading s':>12}{'joining s':>12}{'peak MB':>10}")
-for name, lines in (("blocks", blocks), ("scenarios", listed)):
-    (work / "stoch").write_text("\n".join(lines))
+
+def listed(count, changes, parent=lambda s: "ROOT"):
+    lines = ["STOCH BENCH", "SCENARIOS DISCRETE"]
+    for s in range(count):
+        lines += [f" SC S{s} {parent(s)} 0.5 T2"] + changes(s)
+    return lines + ["ENDATA", ""]
+
+
+def sides(s):
+    return [f" Y0 COST {s % 5}.5"] + [f" RHS R{i} {(i * s) % 17}" for i in range(ROWS)]
+
+
+def cells(columns, each):
+    return [f" Y{j} R{i} 9" for j in range(columns) for i in range(each)]
+
+
+first = lambda s: "ROOT" if s == 0 else "S0"
+few = lambda j: [j % ROWS]
+TRIPLES = (
+    ("blocks", core(1000, few), blocks()),
+    ("one by one", core(1000, few), listed(SCENARIOS, sides)),
+    ("taken over", core(1000, few), listed(SCENARIOS, lambda s: sides(s) if s == 0 else [], first)),
+    ("entries", core(160, lambda j: range(1000)), listed(SCENARIOS, lambda s: [f" Y0 R0 {s % 9 + 1}"])),
+    ("new entries", core(1000, lambda j: range(10)), listed(1, lambda s: [f" Y{j} R{10 + i} 9" for i in range(80) for j in range(1000)])),
+    ("idle", core(1000, few, range(1000)), listed(4000, lambda s: cells(1000, 40) if s == 0 else [], first)),
+    ("too many", core(1000, few), listed(4000, lambda s: cells(1000, 40) if s == 0 else [], first)),
+)
+
+
+def measured(command, *options):
+    """The status of a command, its seconds of a processor and its most megabytes."""
+    words = [program, command, *(str(work / name) for name in ("core", "time", "stoch")), *options]
+    with open(work / "text", "wb") as text:
+        child = subprocess.Popen(words, stdout=text, stderr=subprocess.DEVNULL)
+        _, status, usage = os.wait4(child.pid, 0)
+    child.returncode = os.waitstatus_to_exitcode(status)
+    seconds, megabytes = usage.ru_utime + usage.ru_stime, usage.ru_maxrss / 1024
+    return f"{child.returncode:>8}{seconds:>9.2f}{megabytes:>8.0f}"
+
+
+(work / "time").write_text("\n".join(["TIME BENCH", "PERIODS", " X COST T1", " Y0 R0 T2", "ENDATA", ""]))
+print(f"{'triple':<12}{'bytes':>12}{'show':>8}{'s':>9}{'MB':>8}{'wait':>8}{'s':>9}{'MB':>8}")
+for name, core_lines, stoch_lines in TRIPLES:
+    (work / "core").write_text("\n".join(core_lines))
+    (work / "stoch").write_text("\n".join(stoch_lines))
     size = sum((work / f).stat().st_size for f in ("core", "time", "stoch"))
-    program = subprocess.Popen([driver, work / "core", work / "time", work / "stoch"], stdout=subprocess.PIPE)
-    text = program.stdout.read().decode()
-    _, status, usage = os.wait4(program.pid, 0)
-    program.returncode = os.waitstatus_to_exitcode(status)
-    words = text.split()
-    if len(words) != 4 or words[0] != str(SCENARIOS):
-        sys.exit(f"{name}: {text}")
-    seconds = [int(w) / 1e6 for w in words[1:]]
-    print(f"{name:<12}{size:>12}" + "".join(f"{s:>12.3f}" for s in seconds) + f"{usage.ru_maxrss / 1024:>10.0f}")
+    print(f"{name:<12}{size:>12}{measured('show')}{measured('wait')}", flush=True)
 PY

@@ -12,8 +12,9 @@
 # driver has the plain search: no narrowing, no prices, the boxes copied.
 # Each row has that least budget (or that the million was spent), the least value, the
 # seconds of the search with a million, the boxes and seconds of the plain search
-# (`+`: it was stopped), how much longer that took, and the seconds of cbc and
-# glpsol, `-` where one isn't there. The second table has boxes a second of
+# (`+`: it was stopped), how much longer that took (`>` where it was stopped, `-`
+# where the million was spent), and the seconds of cbc and glpsol, `-` where one
+# isn't there. The second table has boxes a second of
 # searches that spend their budget. All seconds are seconds of a processor.
 #
 # Needs: rt, python3; cbc and glpsol if they are to be measured beside.
@@ -335,7 +336,7 @@ python3 - "$driver" "$work" <<'PY'
 import random, resource, shutil, subprocess, sys
 
 driver, work = sys.argv[1], sys.argv[2]
-MOST, PLAIN_MOST = 1_000_000, 20_000_000
+MOST, PLAIN_MOST = 1_000_000, 5_000_000
 LOWER, UPPER, BOTH = 0, 1, 2
 
 
@@ -455,7 +456,8 @@ def mps(problem, path):
         for i, (_, limit) in enumerate(rows):
             print(f" RHS R{i} {limit}", file=out)
         print("BOUNDS", file=out)
-        for j, (_, upper, _) in enumerate(columns):
+        for j, (lower, upper, _) in enumerate(columns):
+            print(f" LO {'BND':<10}X{j:<9}{lower}", file=out)
             print(f" UP {'BND':<10}X{j:<9}{upper}", file=out)
         print("ENDATA", file=out)
 
@@ -487,11 +489,13 @@ for name, problem in FAMILIES:
     cbc = other(["cbc", path, "ratio", "0", "allow", "0", "solve", "quit"])
     glpsol = other(["glpsol", "--freemps", path, "--mipgap", "0", "--tmlim", "60"])
     size = f"{len(problem[0])}x{len(problem[1])}"
-    plain, times = f"{opened}{'' if ended else '+'}", nanos / 1e9 / max(seconds, 1e-9)
-    print(f"{name:>12} {size:>9} {boxes:>8} {found:>12} {seconds:>9.4f} {plain:>12} {nanos / 1e9:>9.4f} {times:>8.1f} {cbc:>7} {glpsol:>7}", flush=True)
+    plain = f"{opened}{'' if ended else '+'}"
+    times = "-" if found == "spent" else f"{'' if ended else '>'}{nanos / 1e9 / max(seconds, 1e-9):.1f}"
+    print(f"{name:>12} {size:>9} {boxes:>8} {found:>12} {seconds:>9.4f} {plain:>12} {nanos / 1e9:>9.4f} {times:>8} {cbc:>7} {glpsol:>7}", flush=True)
 
 print(f"\n{'problem':>12} {'size':>9} {'budget':>9} {'seconds':>9} {'boxes/s':>10}")
-for name, problem in (("covering 10", covering(10)), ("covering 14", covering(14)), ("lots 18", lots(18)), ("lots 33", lots(33)), ("capacity 9", capacity(9, 10, 1000))):
+SPEEDS = [("covering 10", covering(10)), ("capacity 2", capacity(2, 4, 1000)), ("lots 18", lots(18)), ("units 24 3", units(24, 3)), ("capacity 9", capacity(9, 10, 1000))]
+for name, problem in SPEEDS:
     budget = 100_000
     found, seconds = search(problem, budget)
     while found != "spent" and budget > 100:

@@ -14,7 +14,7 @@ use boxed_problem::Boxed;
 
 /// How often each row may be visited on average. It stops slow creeping over
 /// wide sides.
-const VISITS_PER_ROW: usize = 30;
+const VISITS_PER_ROW: usize = 4;
 
 /// Takes one row that waits and narrows its columns. It answers true where no
 /// row waits.

@@ -1,5 +1,5 @@
 -- Parts of sums and products may be capped before or after; sums over columns, one more at a time.
-use Rattle.std.proofs.Common.{arith, refl, sym, subst, ◌≡◌, ℕ, ◌+◌, ◌*◌, ◌≤◌, ◌<◌, ◌^◌, max, ap, ◌∙◌, add-one, List, [], ◌∷◌, ◌++◌, map}
+use Rattle.std.proofs.Common.{arith, refl, sym, ◌≡◌, ℕ, ◌+◌, ◌*◌, ◌≤◌, ◌^◌, max, ap, ◌∙◌, add-one, List, [], ◌∷◌, ◌++◌, map}
 use Rattle.std.specs.List.{fold, range_with_len}
 use Rattle.std.proofs.lemmas.List.{map-append}
 use Rattle.std.proofs.Math.Nat.{mul_assoc, mul_comm}

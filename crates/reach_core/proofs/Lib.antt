@@ -1,5 +1,8 @@
+pub mod Balance
 pub mod Capped
+pub mod Finding
 pub mod Made
+pub mod ScenarioSums
 pub mod Within
 pub mod Costs
 pub mod Data

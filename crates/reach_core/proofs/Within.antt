@@ -1,5 +1,5 @@
 -- No number of a program is above its reach.
-use Rattle.std.proofs.Common.{arith, refl, sym, ap, subst, ◌∙◌, ◌≡◌, ℕ, zero, suc, ◌+◌, ◌*◌, ◌<◌, ◌≤◌, ◌==◌, max, nat_le, nat_lt, Bool, true, false, ◌&&◌, List, [], ◌∷◌, map, length, get_or, ℤ, pos, negsuc, ◌≤ℤ◌, unsigned_abs, if◌then◌else◌, Option, Some, None}
+use Rattle.std.proofs.Common.{arith, refl, sym, ap, subst, ◌∙◌, ◌≡◌, ℕ, zero, suc, ◌+◌, ◌*◌, ◌<◌, ◌≤◌, ◌==◌, max, nat_le, nat_lt, Bool, true, false, List, [], ◌∷◌, map, length, get_or, ℤ, pos, negsuc, ◌≤ℤ◌, unsigned_abs, if◌then◌else◌, Option, Some, None}
 use Rattle.std.specs.Prelude.{find, option_map, unwrap_or}
 use Rattle.std.specs.List.{All, range_with_len, sum_by}
 use Rattle.std.proofs.lemmas.Int.{ints}
@@ -14,7 +14,6 @@ use Rattle.boxed_problem.specs.Sides.{reach, side_at}
 use Rattle.boxed_problem.specs.declared.parts.Entry.{Entry}
 use Rattle.sp_model.specs.Changes.{Data, all_data, core_data, data_of, limits_of, sides}
 use Rattle.sp_model.specs.Facts.{are_limits, change_reach, change_value, is_change}
-use Rattle.sp_model.specs.Plans.{no_column}
 use Rattle.sp_model.specs.Problems.{no_scenario}
 use Rattle.sp_model.specs.Reaching.{box_reach, cost_reach, data_reach, greatest, hedge_reach, line_reach, raw_reach, rows_reach, run_reach}
 use Rattle.sp_model.specs.Values.{Has, cell_in, is_cell}
@@ -100,7 +99,7 @@ unfolding data_of
 data_long p s = limits_kept (core_data p) s.changes ∙ length-map p.rows limits_of
 
 -- a row of some data
-row_le : (p : Program) (d : Data) (i : ℕ) → i < length d.limits → row_size (sides p) d.limits d.entries i ≤ data_reach p d
+pub row_le : (p : Program) (d : Data) (i : ℕ) → i < length d.limits → row_size (sides p) d.limits d.entries i ≤ data_reach p d
 row_le p d i lt =
     let P : ℕ → Type 0 = λ k. row_size (sides p) d.limits d.entries k ≤ data_reach p d in
     let at : get_or (range_with_len 0 (length d.limits)) i 0 ≡ i = get_or-range_with_len 0 (length d.limits) i 0 lt ∙ omega arith in
@@ -109,7 +108,7 @@ row_le p d i lt =
 limits_le : (p : Program) (d : Data) (i : ℕ) → i < length d.limits → limits_size (limits_at d.limits i) ≤ data_reach p d
 limits_le p d i lt = omega (arith, row_le p d i lt)
 
-sum_le : (p : Program) (d : Data) (i : ℕ) → i < length d.limits → sum_by (entry_size (sides p) i) d.entries ≤ data_reach p d
+pub sum_le : (p : Program) (d : Data) (i : ℕ) → i < length d.limits → sum_by (entry_size (sides p) i) d.entries ≤ data_reach p d
 sum_le p d i lt = omega (arith, row_le p d i lt)
 
 -- an item of a sum

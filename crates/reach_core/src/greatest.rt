@@ -1,16 +1,17 @@
-ghost use Rattle.std.specs.Prelude.{◌≡◌, ◌<◌, ◌++◌, ◌∷◌, [], List, true, IfOk, length, map, max, slice_index, unsigned_abs};
-ghost use Rattle.std.specs.List.{All, range_with_len};
-ghost use Rattle.base_words.specs.Sums.{number_at};
-ghost use Rattle.boxed_problem.specs.declared.parts.Entry.{Entry};
+ghost use Rattle.std.specs.Prelude.{◌≡◌, ◌++◌, ◌∷◌, [], List, true, IfOk, OnOk, length, map, unsigned_abs};
+ghost use Rattle.std.specs.List.{All, fold};
 ghost use Rattle.sp_model.specs.Changes.{Data, all_data, core_data, data_of};
-ghost use Rattle.sp_model.specs.Facts.{is_change};
-ghost use Rattle.sp_model.specs.declared.program.Scenario.{Scenario};
+ghost use Rattle.sp_model.specs.Facts.{IsScenario, is_change};
+ghost use Rattle.sp_model.specs.declared.program.Column.{Column};
+ghost use Rattle.reach_core.specs.Changed.{raised_by};
 ghost use Rattle.reach_core.specs.Greatest.{AreGreatest};
-ghost use Rattle.reach_core.specs.Places.{AreThere};
+ghost use Rattle.reach_core.specs.Places.{AreOrdered, AreThere};
+ghost use Rattle.reach_core.specs.Rows.{AreOfCore};
 
 use crate::magnitudes::{larger, size};
-use crate::rows::data_reach;
-use sp_model::{Program, Scenario, core_draft, drafted};
+use crate::rows::{CoreRows, core_rows, greatest_row};
+use crate::scenario_rows::scenario_row;
+use sp_model::{Change, Column, Program, Scenario};
 use std::alloc::{AllocError, Global};
 
 /// The greatest magnitude of each column's cost, and the greatest row up to the
@@ -21,88 +22,93 @@ pub struct Greatest {
     pub rows: u128,
 }
 
-// The magnitudes of costs.
-fn sizes(alloc: Global, costs: &[i128]) -> Result<Vec<u128>, AllocError>
-    ensures { IfOk result (λ sizes. sizes.items ≡ map unsigned_abs costs.now) }
+// The magnitudes of the costs of some columns.
+fn sizes(alloc: Global, columns: &[Column]) -> Result<Vec<u128>, AllocError>
+    ensures { IfOk result
+        (λ sizes. sizes.items ≡ map (λ (column : Column). unsigned_abs column.cost) columns.now) }
 {
     let mut sizes = Vec::new(alloc);
-    for cost in costs {
-        sizes.push(size(*cost))?;
+    for column in columns {
+        sizes.push(size(column.cost))?;
     }
     Ok(sizes)
 }
 
-// The greater one of a magnitude and that of a cost.
-fn top(tops: &[u128], costs: &[i128], j: usize) -> u128
-    requires tops { j < length tops.now }
-    requires costs { j < length costs.now }
-    ensures { result ≡ max (slice_index tops.now j) (unsigned_abs (number_at costs.now j)) }
+// Takes the cost of a change among the greatest ones.
+fn raise(tops: &mut Vec<u128>, program: &Program, change: &Change)
+    requires there { is_change (length program.now.rows) (length program.now.columns) change.now
+        ≡ true }
+    requires long { length tops.old.items ≡ length program.now.columns }
+    ensures { tops.new.items ≡ raised_by tops.old.items change.now }
 {
-    larger(tops[j], size(costs[j]))
+    if let Change::Cost { column, value } = change {
+        let column = *column as usize;
+        tops[column] = larger(tops[column], size(*value));
+    }
 }
 
-// The greater ones of some magnitudes and those of costs.
-fn raised(alloc: Global, tops: &[u128], costs: &[i128]) -> Result<Vec<u128>, AllocError>
-    requires { length tops.now ≡ length costs.now }
-    ensures { IfOk result
-        (λ raised. raised.items
-        ≡ map (λ j. max (slice_index tops.now j) (unsigned_abs (number_at costs.now j)))
-        (range_with_len 0 (length costs.now))) }
+// Takes the costs of some changes among the greatest ones.
+fn raise_all(tops: &mut Vec<u128>, program: &Program, changes: &[Change])
+    requires there { All
+        (λ c. is_change (length program.now.rows) (length program.now.columns) c ≡ true)
+        changes.now }
+    requires long { length tops.old.items ≡ length program.now.columns }
+    ensures { tops.new.items ≡ fold raised_by tops.old.items changes.now }
 {
-    let mut raised = Vec::new(alloc);
-    for j in 0..costs.len() {
-        raised.push(top(tops, costs, j))?;
+    for change in changes {
+        raise(tops, program, change);
     }
-    Ok(raised)
 }
 
 // Those of the core.
-fn of_core(alloc: Global, program: &Program) -> Result<Greatest, AllocError>
-    requires { AreThere program.now }
+fn of_core(alloc: Global, program: &Program, core: &CoreRows) -> Result<Greatest, AllocError>
+    requires { AreOfCore program.now core.now }
     ensures { IfOk result (λ g. AreGreatest program.now (core_data program.now ∷ []) g) }
 {
-    let draft = core_draft(alloc, program)?;
-    let tops = sizes(alloc, draft.costs.as_slice())?;
-    let rows = data_reach(alloc, program, &draft)?;
+    let tops = sizes(alloc, program.columns.as_slice())?;
+    let rows = greatest_row(core.limits.as_slice(), core.sums.as_slice());
     Ok(Greatest { tops, rows })
 }
 
-// Those with one more scenario.
-fn with_scenario(
-    alloc: Global,
-    program: &Program,
-    before: &Greatest,
-    scenario: &Scenario,
-) -> Result<Greatest, AllocError>
-    requires there { AreThere program.now }
-    requires changes { All
-        (λ c. is_change (length program.now.rows) (length program.now.columns) c ≡ true)
-        scenario.now.changes }
-    requires long { length before.now.tops.items ≡ length program.now.columns }
-    ensures { (ds : List Data) → AreGreatest program.now ds before.now →
-        IfOk result (λ g. AreGreatest program.now (ds ++ data_of program.now scenario.now ∷ []) g) }
-{
-    let draft = drafted(alloc, program, scenario)?;
-    let tops = raised(alloc, before.tops.as_slice(), draft.costs.as_slice())?;
-    let rows = data_reach(alloc, program, &draft)?;
-    Ok(Greatest {
-        tops,
-        rows: larger(before.rows, rows),
-    })
+impl Greatest {
+    // Takes one more scenario among them.
+    fn add(
+        &mut self,
+        alloc: Global,
+        program: &Program,
+        core: &CoreRows,
+        scenario: &Scenario,
+    ) -> Result<(), AllocError>
+        requires ordered { AreOrdered program.now }
+        requires scenario { IsScenario program.now scenario.now }
+        requires core { AreOfCore program.now core.now }
+        requires long { length self.old.tops.items ≡ length program.now.columns }
+        ensures { (ds : List Data) →
+            AreGreatest program.now (core_data program.now ∷ ds) self.old →
+            OnOk result
+            (AreGreatest program.now
+            (core_data program.now ∷ ds ++ data_of program.now scenario.now ∷ []) self.new) }
+    {
+        let row = scenario_row(alloc, program, core, scenario)?;
+        self.rows = larger(self.rows, row);
+        raise_all(&mut self.tops, program, scenario.changes.as_slice());
+        Ok(())
+    }
 }
 
-/// Those of the core and of all scenarios.
+/// Those of the core and of all scenarios. The core's rows are added up once;
+/// a scenario takes the time of its changes, and of one copy of a number for
+/// each row.
 pub fn of_all(alloc: Global, program: &Program) -> Result<Greatest, AllocError>
     requires there { AreThere program.now }
-    requires changes { All
-        (λ (s : Scenario). All
-        (λ c. is_change (length program.now.rows) (length program.now.columns) c ≡ true)
-        s.changes) program.now.scenarios }
+    requires ordered { AreOrdered program.now }
+    requires scenarios { All (IsScenario program.now) program.now.scenarios }
     ensures { IfOk result (λ g. AreGreatest program.now (all_data program.now) g) }
 {
-    let mut greatest = of_core(alloc, program)?;
+    let core = core_rows(alloc, program)?;
+    let mut greatest = of_core(alloc, program, &core)?;
     for scenario in program.scenarios.as_slice() {
-        greatest = with_scenario(alloc, program, &greatest, scenario)?;
+        greatest.add(alloc, program, &core, scenario)?;
     }
     Ok(greatest)
 }

@@ -2,12 +2,14 @@
 //! out before the run is made, so that no sum leaves its bits.
 #![tactic(auto)]
 
+mod cells;
 mod greatest;
 mod hedges;
 mod laws;
 mod magnitudes;
 mod reaching;
 mod rows;
+mod scenario_rows;
 
 pub use laws::numbers_within_reach;
 pub use reaching::run_reach;

@@ -1,13 +1,12 @@
-ghost use Rattle.std.specs.Prelude.{◌≡◌, ◌+◌, ◌*◌, ◌≤◌, IfOk, length, true, unsigned_abs, slice_index};
+ghost use Rattle.std.specs.Prelude.{◌≡◌, ◌+◌, ◌*◌, ◌≤◌, IfOk, length, unsigned_abs, slice_index};
 ghost use Rattle.std.specs.List.{All};
 ghost use Rattle.base_words.specs.Sums.{size_below};
 ghost use Rattle.capped_num.specs.Capped.{capped};
 ghost use Rattle.sp_model.specs.Changes.{all_data};
-ghost use Rattle.sp_model.specs.Facts.{is_change};
+ghost use Rattle.sp_model.specs.Facts.{IsScenario};
 ghost use Rattle.sp_model.specs.Reaching.{box_reach, hedge_reach, line_reach, run_reach};
-ghost use Rattle.sp_model.specs.declared.program.Scenario.{Scenario};
 ghost use Rattle.reach_core.specs.Greatest.{tops_of};
-ghost use Rattle.reach_core.specs.Places.{AreThere};
+ghost use Rattle.reach_core.specs.Places.{AreOrdered, AreThere};
 
 use crate::greatest::of_all;
 use crate::hedges::{hedge_reach, raw_reach};
@@ -64,10 +63,8 @@ pub fn run_reach(
     nonleaf: u32,
 ) -> Result<u128, AllocError>
     requires there { AreThere program.now }
-    requires changes { All
-        (λ (s : Scenario). All
-        (λ c. is_change (length program.now.rows) (length program.now.columns) c ≡ true)
-        s.changes) program.now.scenarios }
+    requires ordered { AreOrdered program.now }
+    requires scenarios { All (IsScenario program.now) program.now.scenarios }
     requires nonleaf { nonleaf ≤ length program.now.columns }
     ensures { IfOk result
         (λ reach. reach ≡ capped (run_reach program.now options.now total nonleaf)) }

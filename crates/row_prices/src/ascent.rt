@@ -6,7 +6,7 @@ ghost use Rattle.boxed_problem.specs.PriceFit.{FitsPrices};
 ghost use Rattle.boxed_problem.specs.Sides.{Within};
 ghost use Rattle.row_prices.specs.Ascending.{IsAscent};
 
-use crate::parts::{column_part, limit_part, limits_reach, side_reach};
+use crate::parts::{least_place, limits_reach, paid_limit, side_reach};
 use boxed_problem::{Boxed, Entry, Limits, Prices, Side};
 use safe_bound::{Reduced, reduce_by};
 use std::alloc::AllocError;
@@ -150,9 +150,9 @@ impl Ascent {
         entries.len()
     }
 
-    /// What the row of these entries adds to the total at a price, its columns'
-    /// leasts with it; none where a number leaves 128 bits.
-    pub fn row_part(&self, first: usize, end: usize, price: i128) -> Option<i128>
+    /// How much more the row of these entries adds for each unit of its price,
+    /// a little above (`up`) or below a price.
+    pub fn slope_at(&self, first: usize, end: usize, price: i128, up: bool) -> i128
         requires first { first < end }
         requires end { end ≤ length self.now.entries }
     {
@@ -161,18 +161,17 @@ impl Ascent {
         let line = self.line.as_slice();
         let square = self.square.as_slice();
         let row = self.row_at(first);
-        let change = price.checked_sub(self.price_of(row))?;
-        let mut sum = limit_part(self.limits_of(row), price)?;
+        let change = price.wrapping_sub(self.price_of(row));
+        let mut slope = paid_limit(self.limits_of(row), price, up);
         for k in first..end {
             let entry = entries[k];
             let column = entry.column as usize;
-            if side_reach(sides[column]) > 0 {
-                let cost = line[column].checked_sub(change.checked_mul(entry.value)?)?;
-                let part = column_part(cost, square[column], sides[column])?;
-                sum = sum.checked_add(part)?;
-            }
+            let cost = line[column].wrapping_sub(change.wrapping_mul(entry.value));
+            let falls = (entry.value > 0) == up;
+            let place = least_place(cost, square[column], sides[column], falls);
+            slope = slope.wrapping_sub(entry.value.wrapping_mul(i128::from(place)));
         }
-        Some(sum)
+        slope
     }
 
     /// The magnitude of the row of these entries, or none where it leaves 128 bits.
@@ -193,7 +192,7 @@ impl Ascent {
 
     /// The greatest magnitude that the price of the row of these entries may
     /// have: the row's share, or that of its present price.
-    pub fn most_price(&self, first: usize, end: usize) -> u128
+    fn most_price(&self, first: usize, end: usize) -> u128
         requires first { first < end }
         requires end { end ≤ length self.now.entries }
     {
@@ -202,6 +201,23 @@ impl Ascent {
         match self.row_size(first, end) {
             Some(size) if size > 0 => present.max(share / size),
             _ => present,
+        }
+    }
+
+    /// The last price, upwards or downwards, that the row of these entries may
+    /// have by its limits and its share.
+    pub fn last_price(&self, first: usize, end: usize, up: bool) -> i128
+        requires first { first < end }
+        requires end { end ≤ length self.now.entries }
+    {
+        let limits = self.limits_of(self.row_at(first));
+        let most = i128::try_from(self.most_price(first, end)).unwrap_or(i128::MAX);
+        if up {
+            if limits.lower.is_some() { most } else { 0 }
+        } else if limits.upper.is_some() {
+            -most
+        } else {
+            0
         }
     }
 

@@ -1,98 +1,124 @@
 ghost use Rattle.std.specs.Prelude.{◌≡◌, ◌<◌, ◌≤◌, length};
 
 use crate::ascent::Ascent;
-use crate::parts::is_allowed;
 
-/// How often a step is doubled, or halved, at most.
-const STEPS: u32 = 126;
+/// How often a step is doubled, or a gap halved, at most.
+const STEPS: u32 = 127;
 
-/// A price of a row, and what the row adds to the total at it.
+/// The part of a price by which it must move to count as moved.
+const HAIR: u128 = 1 << 14;
+
+/// A price of a row beyond which the row adds more, and one beyond which it
+/// doesn't.
 #[derive(Clone, Copy, Debug, Drop)]
-struct Peak {
-    price: i128,
-    part: i128,
+struct Bracket {
+    near: i128,
+    far: i128,
+}
+
+/// The price a step up or down from another, but none past the last one.
+fn step_from(price: i128, last: i128, step: i128, up: bool) -> i128 {
+    if up {
+        price.saturating_add(step).min(last)
+    } else {
+        price.saturating_sub(step).max(last)
+    }
+}
+
+/// A number half way between two.
+fn between(first: i128, second: i128) -> i128 {
+    first.wrapping_add(second.wrapping_sub(first) / 2)
 }
 
 impl Ascent {
-    /// What the row of these entries adds at a price; none where the price isn't
-    /// allowed, or is above `most`, or a number leaves 128 bits.
-    fn peak_at(&self, first: usize, end: usize, most: u128, price: i128) -> Option<Peak>
+    /// Whether the row of these entries adds more at prices a little above
+    /// (`up`) or below a price.
+    fn climbs(&self, first: usize, end: usize, price: i128, up: bool) -> bool
         requires first { first < end }
         requires end { end ≤ length self.now.entries }
     {
-        let limits = self.limits_of(self.row_at(first));
-        if !is_allowed(limits, price) || price.unsigned_abs() > most {
-            return None;
-        }
-        let part = self.row_part(first, end, price)?;
-        Some(Peak { price, part })
+        let slope = self.slope_at(first, end, price, up);
+        if up { slope > 0 } else { slope < 0 }
     }
 
-    /// A price one step up or down at which the row adds more.
-    fn higher(&self, first: usize, end: usize, most: u128, peak: Peak, step: i128) -> Option<Peak>
+    /// Goes up or down from the present price by steps that double, as far as
+    /// the row adds more and its price may go.
+    fn bracket(&self, first: usize, end: usize, up: bool) -> Bracket
         requires first { first < end }
         requires end { end ≤ length self.now.entries }
     {
-        let up = peak.price.saturating_add(step);
-        let down = peak.price.saturating_sub(step);
-        for price in [up, down] {
-            if let Some(next) = self.peak_at(first, end, most, price) {
-                if next.part > peak.part {
-                    return Some(next);
-                }
-            }
-        }
-        None
-    }
-
-    /// The price at which the row of these entries adds most, found by steps
-    /// that double while they climb and are then halved. What a row adds is
-    /// concave in its price, so no price within the limits adds more.
-    fn highest_price(&self, first: usize, end: usize) -> Option<i128>
-        requires first { first < end }
-        requires end { end ≤ length self.now.entries }
-    {
-        let most = self.most_price(first, end);
-        let present = self.price_of(self.row_at(first));
-        let mut peak = self.peak_at(first, end, most, present)?;
+        let last = self.last_price(first, end, up);
+        let mut near = self.price_of(self.row_at(first));
         let mut step = 1i128;
         for _ in 0..STEPS {
-            let Some(next) = self.higher(first, end, most, peak, step) else {
+            let next = step_from(near, last, step, up);
+            if next == near {
                 break;
-            };
-            peak = next;
+            }
+            if !self.climbs(first, end, next, up) {
+                return Bracket { near, far: next };
+            }
+            near = next;
             step = step.saturating_add(step);
         }
+        Bracket { near, far: near }
+    }
+
+    /// The price in a bracket at which the row adds most.
+    fn summit(&self, first: usize, end: usize, bracket: Bracket, up: bool) -> i128
+        requires first { first < end }
+        requires end { end ≤ length self.now.entries }
+    {
+        let Bracket { mut near, mut far } = bracket;
         for _ in 0..STEPS {
-            if step <= 0 {
+            let middle = between(near, far);
+            if middle == near {
                 break;
             }
-            if let Some(next) = self.higher(first, end, most, peak, step) {
-                peak = next;
+            if self.climbs(first, end, middle, up) {
+                near = middle;
+            } else {
+                far = middle;
             }
-            step /= 2;
         }
-        Some(peak.price)
+        far
+    }
+
+    /// The price at which the row of these entries adds most. What a row adds is
+    /// concave in its price, so where it adds no more a little above and a
+    /// little below the present price, it adds most there.
+    fn highest_price(&self, first: usize, end: usize) -> i128
+        requires first { first < end }
+        requires end { end ≤ length self.now.entries }
+    {
+        let present = self.price_of(self.row_at(first));
+        for up in [true, false] {
+            if self.climbs(first, end, present, up) {
+                return self.summit(first, end, self.bracket(first, end, up), up);
+            }
+        }
+        present
     }
 
     /// Moves the price of the row of these entries to where it adds most, and
-    /// answers whether it moved.
+    /// answers whether it moved by more than a hair.
     fn ascend_row(&mut self, first: usize, end: usize) -> bool
         requires first { first < end }
         requires end { end ≤ length self.old.entries }
         ensures { self.new.entries ≡ self.old.entries }
     {
-        let Some(price) = self.highest_price(first, end) else {
-            return false;
-        };
-        if price == self.price_of(self.row_at(first)) {
+        let present = self.price_of(self.row_at(first));
+        let price = self.highest_price(first, end);
+        if price == present {
             return false;
         }
         self.set_price(first, end, price);
-        true
+        let moved = price.wrapping_sub(present).unsigned_abs();
+        moved > present.unsigned_abs() / HAIR
     }
 
-    /// Moves the price of each row once, and answers whether one moved.
+    /// Moves the price of each row once, and answers whether one moved by more
+    /// than a hair.
     fn ascend_once(&mut self) -> bool
         ensures { self.new.entries ≡ self.old.entries }
     {

@@ -5,6 +5,7 @@ ghost use Rattle.boxed_problem.specs.Sides.{Within};
 ghost use Rattle.safe_bound.specs.PriceBound.{price_total};
 
 use crate::ascent::{Ascent, ascent_from};
+use crate::fitting::fits;
 use boxed_problem::{Boxed, Prices, Side};
 use safe_bound::price_total;
 use std::alloc::AllocError;
@@ -49,7 +50,7 @@ pub fn improve(
     ensures err { OnErr result (prices.new ≡ prices.old) }
 {
     let found = suggested(problem, sides, prices, rounds)?;
-    if !problem.fits(&found) {
+    if !fits(problem, &found) {
         return Ok(());
     }
     if price_total(problem, sides, prices) < price_total(problem, sides, &found) {

@@ -4,6 +4,7 @@
 
 mod ascent;
 mod climbing;
+mod fitting;
 mod improving;
 mod parts;
 #[cfg(test)]

@@ -2,13 +2,8 @@ ghost use Rattle.std.specs.Prelude.{◌≡◌, ◌+◌, ◌*◌, ◌^◌, ◌≤
 ghost use Rattle.boxed_problem.specs.Facts.{limit_size, limits_size};
 ghost use Rattle.boxed_problem.specs.PriceFit.{HasSign};
 ghost use Rattle.boxed_problem.specs.Sides.{reach};
-ghost use Rattle.safe_bound.specs.Leasts.{least_on};
 
 use boxed_problem::{Limits, Side};
-use safe_bound::column_least;
-
-/// The greatest magnitude that a part of a bound may have.
-const PART_MOST: u128 = 1 << 125;
 
 /// The greater magnitude of a side's ends.
 pub fn side_reach(side: Side) -> u128
@@ -30,17 +25,28 @@ pub fn part_size(line: i128, square: i128, side: Side) -> Option<u128>
     linear.checked_add(curved)
 }
 
-/// The least that a column adds over a side, or none where it is too large.
-pub fn column_part(line: i128, square: i128, side: Side) -> Option<i128>
-    requires filled { side.lower ≤ℤ side.upper }
-    requires convex { pos 0 ≤ℤ square }
-    ensures { IfSome result (λ v. v ≡ least_on line square side) }
-{
-    let size = part_size(line, square, side)?;
-    if size > PART_MOST {
-        return None;
+/// The place of a side nearest to where a curve with a square turns.
+fn turning_place(cost: i128, square: i128, side: Side) -> i64 {
+    let lower = i128::from(side.lower);
+    let upper = i128::from(side.upper);
+    let twice = square.wrapping_add(square);
+    let turn = match square.wrapping_sub(cost).checked_div(twice) {
+        Some(turn) => turn,
+        None => lower,
+    };
+    i64::try_from(turn.max(lower).min(upper)).unwrap_or(side.lower)
+}
+
+/// Where on a side a column adds least. Where all of it is the same, that is
+/// the upper end if the cost is about to fall, and the lower one if it isn't.
+pub fn least_place(cost: i128, square: i128, side: Side, falls: bool) -> i64 {
+    if square > 0 {
+        turning_place(cost, square, side)
+    } else if cost < 0 || (cost == 0 && falls) {
+        side.upper
+    } else {
+        side.lower
     }
-    Some(column_least(line, square, side))
 }
 
 /// Whether a row's limits allow a price of this sign.
@@ -50,14 +56,15 @@ pub fn is_allowed(limits: Limits, price: i128) -> bool
     (price >= 0 || limits.upper.is_some()) && (price <= 0 || limits.lower.is_some())
 }
 
-/// The price times the limit that it pays for, or none where that leaves 128 bits.
-pub fn limit_part(limits: Limits, price: i128) -> Option<i128> {
-    let limit = if price > 0 {
+/// The limit that a price a little above (`up`) or below this one pays for, 0
+/// where there is none.
+pub fn paid_limit(limits: Limits, price: i128, up: bool) -> i128 {
+    let limit = if price > 0 || (price == 0 && up) {
         limits.lower
     } else {
         limits.upper
     };
-    price.checked_mul(limit.unwrap_or(0))
+    limit.unwrap_or(0)
 }
 
 /// The magnitude of a limit, 0 where there is none.

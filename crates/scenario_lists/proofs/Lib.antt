@@ -1,5 +1,6 @@
 pub mod Agreement
 pub mod Apart
+pub mod Staying
 pub mod Digits
 pub mod Keeping
 pub mod Marks
@@ -7,3 +8,5 @@ pub mod Nesting
 pub mod Distinctness
 pub mod Order
 pub mod Rows
+pub mod ScenarioValues
+pub mod WeightSums

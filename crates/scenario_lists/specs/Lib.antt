@@ -1,5 +1,7 @@
 pub mod Combinations
 pub mod Distinct
 pub mod Kept
+pub mod Live
 pub mod Nesting
 pub mod ScenarioList
+pub mod Values

@@ -1,11 +1,14 @@
-ghost use Rattle.std.specs.Prelude.{◌≡◌, ◌++◌, ◌<◌, ◌≤◌, IfOk, length};
+ghost use Rattle.std.specs.Prelude.{◌≡◌, ◌++◌, ◌<◌, ◌≤◌, IfErr, IfOk, length};
 ghost use Rattle.std.specs.List.{All};
 ghost use Rattle.stoch_lines.specs.Faults.{max_scenarios};
 ghost use Rattle.smps_stoch.specs.StochFacts.{IsEarlier};
-ghost use Rattle.scenario_lists.specs.ScenarioList.{AreRows, HaveParents, branch_marks, branch_scenarios, inherited, inherited_mark, mark_beside, marks_beside, scenario_beside};
+ghost use Rattle.scenario_lists.specs.Live.{ByExcess, entry_count, live_beside, live_branches, live_entries};
+ghost use Rattle.scenario_lists.specs.ScenarioList.{AreRows, HaveParents, branch_marks, inherited, inherited_mark, mark_beside, marks_beside};
 
 use crate::data::ScenarioData;
 use crate::distinct::first_of_each;
+use crate::fault::ListFault;
+use crate::live::append_live;
 use capped_num::capped_product;
 use smps_stoch::{Branch, StochEntry};
 use std::alloc::{AllocError, Global};
@@ -23,18 +26,20 @@ fn inherited(made: &List<ScenarioData>, parent: Option<u32>) -> &[StochEntry]
     }
 }
 
-// The entries of a scenario: its own ones, then its parent's.
+// The entries of a scenario: those of its own that stay, then its parent's.
 fn joined(
     alloc: Global,
     made: &List<ScenarioData>,
+    live: &[bool],
     branch: &Branch,
 ) -> Result<Vec<StochEntry>, AllocError>
     requires { IsEarlier branch.now.parent (length made.now) }
-    ensures { IfOk result
-        (λ entries. entries.items ≡ branch.now.entries ++ inherited made.now branch.now.parent) }
+    ensures { IfOk result (λ entries.
+        entries.items
+        ≡ live_entries live.now branch.now.entries ++ inherited made.now branch.now.parent) }
 {
     let mut entries = Vec::new(alloc);
-    entries.extend_from_slice(branch.entries.as_slice())?;
+    append_live(&mut entries, live, branch.entries.as_slice())?;
     entries.extend_from_slice(inherited(made, branch.parent))?;
     Ok(entries)
 }
@@ -43,12 +48,13 @@ fn joined(
 fn scenario_beside(
     alloc: Global,
     made: &List<ScenarioData>,
+    live: &[bool],
     branch: &Branch,
 ) -> Result<ScenarioData, AllocError>
     requires { IsEarlier branch.now.parent (length made.now) }
-    ensures { IfOk result (λ made_one. made_one ≡ scenario_beside made.now branch.now) }
+    ensures { IfOk result (λ made_one. made_one ≡ live_beside live.now made.now branch.now) }
 {
-    let entries = joined(alloc, made, branch)?;
+    let entries = joined(alloc, made, live, branch)?;
     let kept = first_of_each(alloc, entries.as_slice())?;
     Ok(ScenarioData {
         weight: capped_product(branch.weight.unsigned_abs(), 1),
@@ -56,17 +62,29 @@ fn scenario_beside(
     })
 }
 
-/// The scenarios of a stoch file that lists them.
+/// The scenarios of a stoch file that lists them, without the entries of columns
+/// that don't stay, and with no more entries than `limit` all together.
 pub fn branch_scenarios(
     alloc: Global,
     branches: &List<Branch>,
-) -> Result<List<ScenarioData>, AllocError>
+    live: &[bool],
+    limit: usize,
+) -> Result<List<ScenarioData>, ListFault>
     requires { HaveParents branches.now }
-    ensures { IfOk result (λ made. made ≡ branch_scenarios branches.now) }
+    ensures ok { IfOk result (λ made. made ≡ live_branches live.now branches.now) }
+    ensures few { IfOk result (λ made. entry_count made ≤ limit) }
+    ensures err { IfErr result
+        (ByExcess (limit < entry_count (live_branches live.now branches.now))) }
 {
     let mut made = List::new(alloc);
+    let mut left = limit;
     for k in 0..branches.len() {
-        let next = scenario_beside(alloc, &made, &branches.as_slice()[k])?;
+        let next = scenario_beside(alloc, &made, live, &branches.as_slice()[k])?;
+        let count = next.entries.len();
+        if left < count {
+            return Err(ListFault::TooManyEntries);
+        }
+        left -= count;
         made.push(next)?;
     }
     Ok(made)

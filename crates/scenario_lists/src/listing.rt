@@ -1,11 +1,13 @@
-ghost use Rattle.std.specs.Prelude.{◌≡◌, ◌<◌, ◌≤◌, IfOk};
+ghost use Rattle.std.specs.Prelude.{◌≡◌, ◌<◌, ◌≤◌, IfErr, IfOk};
 ghost use Rattle.stoch_lines.specs.Faults.{max_scenarios};
 ghost use Rattle.scenario_lists.specs.Combinations.{combinations};
-ghost use Rattle.scenario_lists.specs.ScenarioList.{AreRows, HaveAllParents, count_of, marks_of, product_marks, product_marks_at, product_scenario_at, product_scenarios, scenarios_of};
+ghost use Rattle.scenario_lists.specs.Live.{ByExcess, entry_count, live_products, live_scenario, live_scenarios};
+ghost use Rattle.scenario_lists.specs.ScenarioList.{AreRows, HaveAllParents, count_of, marks_of, product_marks, product_marks_at, product_scenario_at};
 
 use crate::branches::{branch_marks, branch_scenarios};
 use crate::choices::choices;
 use crate::data::ScenarioData;
+use crate::fault::ListFault;
 use crate::marking::marks;
 use crate::products::scenario;
 use smps_stoch::{Element, Stoch};
@@ -16,29 +18,42 @@ use wide_num::List;
 fn product_scenario(
     alloc: Global,
     elements: &List<Element>,
+    live: &[bool],
     count: usize,
     number: usize,
 ) -> Result<ScenarioData, AllocError>
     requires all { count ≡ combinations elements.now }
     requires there { number < count }
-    ensures { IfOk result (λ made. made ≡ product_scenario_at elements.now number) }
+    ensures { IfOk result
+        (λ made. made ≡ live_scenario live.now (product_scenario_at elements.now number)) }
 {
     let choices = choices(alloc, elements, count, number)?;
-    scenario(alloc, elements, choices.as_slice())
+    scenario(alloc, elements, live, choices.as_slice())
 }
 
 // The scenarios of all combinations.
 fn product_scenarios(
     alloc: Global,
     elements: &List<Element>,
+    live: &[bool],
     count: usize,
-) -> Result<List<ScenarioData>, AllocError>
+    limit: usize,
+) -> Result<List<ScenarioData>, ListFault>
     requires { count ≡ combinations elements.now }
-    ensures { IfOk result (λ made. made ≡ product_scenarios elements.now) }
+    ensures ok { IfOk result (λ made. made ≡ live_products live.now elements.now) }
+    ensures few { IfOk result (λ made. entry_count made ≤ limit) }
+    ensures err { IfErr result
+        (ByExcess (limit < entry_count (live_products live.now elements.now))) }
 {
     let mut made = List::new(alloc);
+    let mut left = limit;
     for number in 0..count {
-        let next = product_scenario(alloc, elements, count, number)?;
+        let next = product_scenario(alloc, elements, live, count, number)?;
+        let entries = next.entries.len();
+        if left < entries {
+            return Err(ListFault::TooManyEntries);
+        }
+        left -= entries;
         made.push(next)?;
     }
     Ok(made)
@@ -83,19 +98,26 @@ fn product_marks(
 
 /// The scenarios in order, of which there are `count`: all combinations with
 /// the last element varying fastest, or the file's list, each with its parent's
-/// entries for places that it has none of.
+/// entries for places that it has none of. Entries of columns that `live` says
+/// don't stay are left out. `TooManyEntries` comes exactly where more than
+/// `limit` entries stay in all scenarios together, and before more are kept.
 pub fn scenarios(
     alloc: Global,
     stoch: &Stoch,
+    live: &[bool],
     count: usize,
-) -> Result<List<ScenarioData>, AllocError>
+    limit: usize,
+) -> Result<List<ScenarioData>, ListFault>
     requires all { count ≡ count_of stoch.now }
     requires parents { HaveAllParents stoch.now }
-    ensures { IfOk result (λ made. made ≡ scenarios_of stoch.now) }
+    ensures ok { IfOk result (λ made. made ≡ live_scenarios live.now stoch.now) }
+    ensures few { IfOk result (λ made. entry_count made ≤ limit) }
+    ensures err { IfErr result
+        (ByExcess (limit < entry_count (live_scenarios live.now stoch.now))) }
 {
     match stoch {
-        Stoch::Product(elements) => product_scenarios(alloc, elements, count),
-        Stoch::Scenarios(branches) => branch_scenarios(alloc, branches),
+        Stoch::Product(elements) => product_scenarios(alloc, elements, live, count, limit),
+        Stoch::Scenarios(branches) => branch_scenarios(alloc, branches, live, limit),
     }
 }
 

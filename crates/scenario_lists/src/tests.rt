@@ -1,6 +1,6 @@
 ghost use Rattle.scenario_lists.specs.ScenarioList.{HaveAllParents};
 
-use crate::{scenario_count, scenario_marks, scenarios};
+use crate::{ListFault, scenario_count, scenario_marks, scenarios};
 use dec_core::Decimal;
 use smps_stoch::{Element, Realisation, Stoch, StochEntry, StochPlace};
 use std::alloc::{AllocError, Global};
@@ -53,7 +53,10 @@ fn text(alloc: Global, stages: u8, stoch: &Stoch) -> Result<String, AllocError>
     let Ok(count) = scenario_count(stoch) else {
         return Ok(all);
     };
-    for scenario in scenarios(alloc, stoch, count)?.as_slice() {
+    let Ok(listed) = scenarios(alloc, stoch, &[], count, 100) else {
+        return Ok(all);
+    };
+    for scenario in listed.as_slice() {
         all = format!(in alloc; "{all}{}:", scenario.weight)?;
         for entry in scenario.entries.as_slice() {
             all = format!(in alloc; "{all} {:?}={}", entry.place, entry.value.mantissa)?;
@@ -92,5 +95,50 @@ fn combinations(rt: HostRuntime) -> Result<(), Fail> {
         text(alloc, 2, &Stoch::Product(List::new(alloc)))?.as_str(),
         "1:; [0, 0]"
     );
+    Ok(())
+}
+
+// How many entries two combinations have where two of three columns stay: in each one
+// a cost of each column and the right side of a row.
+fn entries_within(alloc: Global, limit: usize) -> Result<usize, ListFault> {
+    let mut entries = rights(alloc, [(0, 4)].as_slice())?;
+    for column in 0..3 {
+        entries.push(StochEntry {
+            place: StochPlace::Cost(column),
+            value: Decimal {
+                mantissa: 1,
+                places: 0,
+            },
+            line: 1,
+        })?;
+    }
+    let mut realisations = List::new(alloc);
+    realisations.push(Realisation { weight: 5, entries })?;
+    realisations.push(Realisation {
+        weight: 5,
+        entries: List::new(alloc),
+    })?;
+    let mut elements = List::new(alloc);
+    elements.push(Element {
+        period: 2,
+        realisations,
+    })?;
+    let stoch = Stoch::Product(elements);
+    let Ok(count) = scenario_count(&stoch) else {
+        return Ok(0);
+    };
+    let listed = scenarios(alloc, &stoch, &[true, false, true], count, limit)?;
+    let mut total = 0;
+    for scenario in listed.as_slice() {
+        total = scenario.entries.len().saturating_add(total);
+    }
+    Ok(total)
+}
+
+#[test]
+fn columns_that_leave_do_not_count(rt: HostRuntime) -> Result<(), Fail> {
+    let alloc = rt.alloc();
+    assert_eq!(rt; entries_within(alloc, 6), Ok(6));
+    assert_eq!(rt; entries_within(alloc, 5), Err(ListFault::TooManyEntries));
     Ok(())
 }

@@ -1,8 +1,8 @@
 -- The columns of a run: boxes that aren't empty, stages that never fall, and how many are before the last.
-use Rattle.std.proofs.Common.{arith, refl, sym, ap, subst, ◌∙◌, ◌≡◌, ℕ, zero, suc, ◌+◌, ◌-◌, ◌<◌, ◌≤◌, nat_le, nat_lt, Bool, true, false, cond, List, [], ◌∷◌, ◌++◌, map, length, get_or, ℤ, pos, negsuc, neg_ℤ, ◌+ℤ◌, ◌-ℤ◌, ◌≤ℤ◌, unsigned_abs, Option, Some, None, slice_index}
+use Rattle.std.proofs.Common.{arith, refl, sym, ap, subst, ◌∙◌, ◌≡◌, ℕ, zero, suc, ◌+◌, ◌-◌, ◌<◌, ◌≤◌, nat_le, nat_lt, Bool, true, false, List, [], ◌∷◌, length, get_or, ℤ, pos, negsuc, neg_ℤ, ◌≤ℤ◌, unsigned_abs, Option, Some, None, slice_index}
 use Rattle.std.specs.List.{All, AllPairs, count_by, range_with_len}
 use Rattle.std.proofs.lemmas.Int.{clamps, ints}
-use Rattle.std.proofs.lemmas.List.{get_or-map, get_or_default, length-map}
+use Rattle.std.proofs.lemmas.List.{get_or-map}
 use Rattle.std.proofs.lemmas.List.FromFn.{get_or-map-range_with_len, length-map-range_with_len, length-range_with_len}
 use Rattle.std.proofs.lemmas.List.Sums.{count_by-le-length}
 use Rattle.base_words.proofs.Comparisons.{above_from_test}
@@ -10,10 +10,9 @@ use Rattle.boxed_problem.specs.Sides.{no_side, side_at}
 use Rattle.boxed_problem.specs.declared.parts.Side.{Side}
 use Rattle.smps_words.specs.CoreFacts.{end_size, is_empty_box, max_end}
 use Rattle.smps_words.specs.Stages.{IsStageOf, stage_in}
-use Rattle.smps_words.specs.declared.core_data.CoreColumn.{CoreColumn}
 use Rattle.smps_words.specs.declared.core_file.Core.{Core}
 use Rattle.smps_words.specs.declared.periods.Periods.{Periods}
-use Rattle.smps_words.proofs.PeriodStages.{column_stage, row_stage}
+use Rattle.smps_words.proofs.PeriodStages.{column_stage}
 use Rattle.sp_model.specs.Facts.{IsColumn}
 use Rattle.sp_model.specs.declared.program.Column.{Column}
 use Rattle.join_words.specs.Boxes.{box_in, boxes_of, filled}

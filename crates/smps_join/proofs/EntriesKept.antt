@@ -1,5 +1,5 @@
 -- The entries of a run: in order, of rows and columns that are there, and none of a column whose box is the single 0.
-use Rattle.std.proofs.Common.{arith, refl, sym, ap, subst, ◌∙◌, ◌≡◌, ℕ, zero, suc, ◌+◌, ◌-◌, ◌<◌, ◌≤◌, max, Bool, true, false, not, ◌&&◌, List, [], ◌∷◌, map, length, get_or, ℤ, pos, negsuc, unsigned_abs, if◌then◌else◌}
+use Rattle.std.proofs.Common.{arith, refl, sym, ap, subst, ◌∙◌, ◌≡◌, ℕ, zero, suc, ◌+◌, ◌-◌, ◌<◌, Bool, true, false, not, ◌&&◌, List, map, length, get_or, ℤ, pos, negsuc, unsigned_abs, if◌then◌else◌}
 use Rattle.std.specs.Ordering.{int_eq}
 use Rattle.std.specs.List.{All, AllPairs, filter, range_with_len}
 use Rattle.std.proofs.lemmas.Int.{ints}
@@ -14,7 +14,7 @@ use Rattle.boxed_problem.specs.declared.parts.Side.{Side}
 use Rattle.smps_words.specs.CoreFacts as core_facts
 use Rattle.smps_words.specs.declared.core_data.CoreEntry.{CoreEntry}
 use Rattle.smps_words.specs.declared.core_file.Core.{Core}
-use Rattle.sp_model.specs.Changes.{side_of, sides}
+use Rattle.sp_model.specs.Changes.{side_of}
 use Rattle.sp_model.specs.Reaching.{box_reach}
 use Rattle.sp_model.specs.declared.program.Program.{Program}
 use Rattle.join_words.specs.Boxes.{is_idle, is_zero}

@@ -1,5 +1,5 @@
 -- The frame of a join: the boxes of all columns, and at most nine places for the costs and each row.
-use Rattle.std.proofs.Common.{arith, refl, sym, ap, subst, ◌∙◌, ◌≡◌, ℕ, zero, suc, ◌<◌, ◌≤◌, max, nat_lt, Bool, true, false, List, [], ◌∷◌, ◌++◌, map, length, get_or, Option, Some, None}
+use Rattle.std.proofs.Common.{arith, refl, sym, subst, ◌≡◌, ℕ, ◌<◌, ◌≤◌, max, nat_lt, Bool, true, false, List, [], ◌∷◌, ◌++◌, map, length, get_or, Option, Some, None}
 use Rattle.std.specs.Prelude.{unwrap_or}
 use Rattle.std.specs.Option.{option_to_list}
 use Rattle.std.specs.List.{All, AllByRecursion, filter, fold, range_with_len}

@@ -1,6 +1,5 @@
 -- What the facts of a stoch file say of all its entries, weights, parents and periods.
-use Rattle.std.proofs.Common.{arith, ap, ◌≡◌, ◌<◌, ◌≤◌, max, length}
-use Rattle.std.specs.List.{All}
+use Rattle.std.proofs.Common.{arith, ◌<◌, length}
 use Rattle.smps_words.specs.CoreFacts.{IsShort}
 use Rattle.smps_words.specs.declared.core_file.Core.{Core}
 use Rattle.smps_words.specs.declared.periods.Periods.{Periods}

@@ -1,6 +1,7 @@
 pub mod ColumnFacts
 pub mod Counted
 pub mod Counts
+pub mod Living
 pub mod EntriesKept
 pub mod FrameIs
 pub mod FromStoch

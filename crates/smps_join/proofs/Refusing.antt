@@ -1,21 +1,19 @@
 -- When the join refuses: too many changes, a number or a total that leaves 128 bits, a reach that is too great.
-use Rattle.std.proofs.Common.{arith, refl, sym, ap, subst, ◌∙◌, ◌≡◌, ℕ, zero, suc, ◌+◌, ◌*◌, ◌^◌, ◌<◌, ◌≤◌, min, nat_lt, Bool, true, false, cond, not, ◌||◌, List, [], ◌∷◌, map, length, get_or, ℤ, pos, unsigned_abs, Option, Some, None, if◌then◌else◌, inl, inr}
-use Rattle.std.specs.List.{All, Any, cons_option, count_by, filter_map, sum_by}
-use Rattle.std.proofs.lemmas.Int.{ints}
+use Rattle.std.proofs.Common.{arith, refl, sym, ap, subst, ◌∙◌, ◌≡◌, ℕ, zero, suc, ◌+◌, ◌^◌, ◌<◌, ◌≤◌, nat_lt, Bool, true, false, cond, not, ◌||◌, List, [], ◌∷◌, map, length, get_or, ℤ, unsigned_abs, Some, None, if◌then◌else◌, inl, inr}
+use Rattle.std.specs.List.{All, Any, cons_option, filter_map, sum_by}
 use Rattle.std.proofs.lemmas.List.{length-map}
 use Rattle.std.proofs.lemmas.List.FromFn.{length-map-range_with_len}
 use Rattle.std.proofs.lemmas.List.Sums.{sum_by-cons}
 use Rattle.boxed_problem.specs.Facts.{limits_size}
 use Rattle.boxed_problem.specs.declared.parts.Entry.{Entry}
-use Rattle.boxed_problem.specs.declared.parts.Side.{Side}
 use Rattle.capped_num.specs.Capped.{capped}
 use Rattle.smps_words.specs.declared.core_file.Core.{Core}
 use Rattle.smps_words.specs.declared.periods.Periods.{Periods}
-use Rattle.smps_stoch.specs.StochFacts.{IsPlace}
 use Rattle.smps_stoch.specs.declared.stoch.Stoch.{Stoch}
 use Rattle.stoch_lines.specs.declared.places.StochEntry.{StochEntry}
 use Rattle.stoch_lines.specs.declared.places.StochPlace.{StochPlace}
 use Rattle.stoch_lines.specs.declared.places.StochPlace.TheVariants.{Cost, Cell, Right}
+use Rattle.scenario_lists.specs.Live.{entry_count, live_scenarios}
 use Rattle.scenario_lists.specs.ScenarioList.{count_of, scenarios_of}
 use Rattle.scenario_lists.specs.declared.data.ScenarioData.{ScenarioData}
 use Rattle.sp_model.specs.Facts.{RunFacts}
@@ -30,9 +28,7 @@ use Rattle.sp_model.specs.declared.program.Row.{Row}
 use Rattle.sp_model.specs.declared.program.Scenario.{Scenario}
 use Rattle.reach_core.specs.Within.{NumbersWithin, change_size}
 use Rattle.reach_core.proofs.Within.{total_within, within}
-use Rattle.join_frame.specs.Naming.{IsNamed}
 use Rattle.join_frame.specs.Sourcing.{AreNamed}
-use Rattle.join_numbers.specs.Sizes.{IsLarge}
 use Rattle.join_numbers.specs.Unfit.{IsLargeChange, IsLargeColumn, IsLargeEntry, IsLargeRow, IsLargeScenario}
 use Rattle.join_words.specs.Boxes.{is_idle}
 use Rattle.join_words.specs.Framing.{Source, frame_of}
@@ -42,7 +38,7 @@ use Rattle.join_words.specs.RunOf.{change_at, change_of, column_of, has_many_cel
 use Rattle.join_words.specs.declared.fault.JoinFault.TheVariants.{Wide}
 use Rattle.join_words.specs.declared.frame.Frame.{Frame}
 use Rattle.smps_join.specs.Cutting.{cut_options}
-use Rattle.smps_join.specs.Counting.{change_count, changes_count, is_live}
+use Rattle.smps_join.specs.Counting.{change_count, changes_count, is_live, live_of}
 use Rattle.smps_join.specs.Joinable.{CanJoin}
 use Rattle.smps_join.specs.Unfit.{HasUnfit, program_with}
 use Rattle.smps_join.specs.Weights.{weight_sum}
@@ -50,16 +46,12 @@ use Rattle.smps_join.proofs.ColumnFacts.{nonleaf_le}
 use Rattle.smps_join.proofs.Counts.{count_cons}
 use Rattle.smps_join.proofs.FromStoch.{IsGood, each_entry}
 use Rattle.smps_join.proofs.Listed.{each_of_all, listed_long}
-use Rattle.smps_join.proofs.RunIs.{has_reach, listed_is, program_is, total_is}
+use Rattle.smps_join.proofs.Living.{counted_live, more, not_more}
+use Rattle.smps_join.proofs.RunIs.{has_reach, program_is, total_is}
 
 -- the places of all entries are there
 pub all_named : (core : Core) (periods : Periods) (stoch : Stoch) (options : Options) → CanJoin core periods stoch options → AreNamed core stoch
 all_named core periods stoch options can k d lt = (each_of_all (IsGood core) stoch (each_entry core periods stoch can.stoch_fits) k d lt).0
-
-pub named_side : (core : Core) (sides : List Side) (p : StochPlace) → length sides ≡ length core.columns → IsPlace core p → IsNamed sides p
-named_side core sides (Cost j) long h = omega (arith, long, h)
-named_side core sides (Cell i j) long h = let column = h.1 in omega (arith, long, column)
-named_side core sides (Right i) long h = tt
 
 -- changes are counted
 unless_long : (t : Bool) (c : Change) (cs : List Change) (n : ℕ) → length cs ≡ n → length (cons_option (if t then None else Some c) cs) ≡ cond (not t) 1 0 + n
@@ -104,10 +96,6 @@ unfit_above p n all (inr (inl any)) = any_all IsLargeRow (λ (r : Row). limits_s
 unfit_above p n all (inr (inr (inl any))) = any_all IsLargeEntry (λ (e : Entry). unsigned_abs e.value ≤ n) (2 ^ 127 ≤ n) p.entries (λ e large le. large_number (2 ^ 127) (unsigned_abs e.value) n large le) any all.entries
 unfit_above p n all (inr (inr (inr (inl large)))) = large_number (2 ^ 127) (unsigned_abs p.constant) n large all.constant
 unfit_above p n all (inr (inr (inr (inr any)))) = any_all IsLargeScenario (λ (s : Scenario). All (λ c. change_size c ≤ n) s.changes) (2 ^ 127 ≤ n) p.scenarios (λ s large le. any_all IsLargeChange (λ c. change_size c ≤ n) (2 ^ 127 ≤ n) s.changes (λ c one small. change_within c n one small) large le) any all.changes
-
--- all places are named
-pub named_all : (core : Core) (sides : List Side) (listed : List ScenarioData) → length sides ≡ length core.columns → All (λ (s : ScenarioData). All (λ (e : StochEntry). IsPlace core e.place) s.entries) listed → All (λ (s : ScenarioData). All (λ (e : StochEntry). IsNamed sides e.place) s.entries) listed
-named_all core sides listed long h = λ k d lt i e i_lt. named_side core sides (get_or (get_or listed k d).entries i e).place long (h k d lt i e i_lt)
 
 or_right_true : (a b : Bool) → b ≡ true → (a || b) ≡ true
 or_right_true true b h = refl
@@ -181,11 +169,16 @@ module _ (core : Core) (periods : Periods) (stoch : Stoch) (options : Options) w
       (subst (λ q. RunFacts (program_of source) (options_of source options) (total_of source) q) (sym d) facts)))
 
   -- too many changes
-  pub changes_many : (frame : Frame) (listed : List ScenarioData) → frame ≡ frame_of source → listed ≡ scenarios_of stoch → nat_lt 4194304 (changes_count frame.sides listed) ≡ has_many_changes source
-  changes_many frame listed f l =
-      ap (λ (x : Frame). nat_lt 4194304 (changes_count x.sides listed)) f
-      ∙ (ap (λ x. nat_lt 4194304 (changes_count (frame_of source).sides x)) l
-      ∙ ap (nat_lt 4194304) (changes_sum (parts_of core) (frame_of source) (scenarios_of stoch)))
+  changes_many : (frame : Frame) → frame ≡ frame_of source → nat_lt 4194304 (entry_count (live_scenarios (live_of frame.sides) stoch)) ≡ has_many_changes source
+  changes_many frame f =
+      ap (λ (x : Frame). nat_lt 4194304 (entry_count (live_scenarios (live_of x.sides) stoch))) f
+      ∙ ap (nat_lt 4194304) (counted_live (frame_of source).sides (scenarios_of stoch) ∙ changes_sum (parts_of core) (frame_of source) (scenarios_of stoch))
+
+  pub many_changes : (frame : Frame) → frame ≡ frame_of source → 4194304 < entry_count (live_scenarios (live_of frame.sides) stoch) → has_many_changes source ≡ true
+  many_changes frame f h = sym (changes_many frame f) ∙ more (entry_count (live_scenarios (live_of frame.sides) stoch)) 4194304 h
+
+  pub few_changes : (frame : Frame) → frame ≡ frame_of source → entry_count (live_scenarios (live_of frame.sides) stoch) ≤ 4194304 → has_many_changes source ≡ false
+  few_changes frame f h = sym (changes_many frame f) ∙ not_more (entry_count (live_scenarios (live_of frame.sides) stoch)) 4194304 h
 
   -- too many cells
   pub cells_many : (count columns rows nonleaf : ℕ) → count ≡ count_of stoch → columns ≡ length core.columns → rows ≡ length core.rows → nonleaf ≡ nonleaf_of source → has_many_cells count columns rows nonleaf ≡ has_many_cells (count_of stoch) (length core.columns) (length core.rows) (nonleaf_of source)

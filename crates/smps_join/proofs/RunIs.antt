@@ -1,11 +1,11 @@
 -- The program of a join keeps the facts of a run, where none of the refusals' causes holds.
-use Rattle.std.proofs.Common.{arith, refl, sym, ap, subst, ◌∙◌, ◌≡◌, ℕ, zero, suc, ◌+◌, ◌*◌, ◌^◌, ◌<◌, ◌≤◌, ◌==◌, min, nat_lt, Bool, true, false, ◌||◌, List, [], ◌∷◌, map, length, get_or, ℤ, pos, ◌≤ℤ◌, unsigned_abs, Option, Some, None}
+use Rattle.std.proofs.Common.{arith, refl, sym, ap, subst, ◌∙◌, ◌≡◌, ℕ, ◌*◌, ◌^◌, ◌<◌, ◌≤◌, nat_lt, Bool, true, false, ◌||◌, List, [], ◌∷◌, map, length, get_or, pos, ◌≤ℤ◌, Option, Some, None}
 use Rattle.std.specs.Prelude.{IfSome}
 use Rattle.std.specs.Ordering.{int_eq}
 use Rattle.std.specs.List.{All, AllPairs, count_by, filter_map, list_any, range_with_len, sum_by}
 use Rattle.std.proofs.lemmas.Bool.Decides.{Decides-int_eq}
 use Rattle.std.proofs.lemmas.Int.{ints}
-use Rattle.std.proofs.lemmas.List.{get_or-map, length-map}
+use Rattle.std.proofs.lemmas.List.{length-map}
 use Rattle.std.proofs.lemmas.List.Elements.{All-map, recursion_from_All}
 use Rattle.std.proofs.lemmas.List.Folds.{list_any_at}
 use Rattle.std.proofs.lemmas.List.FromFn.{get_or-range_with_len, get_or-map-range_with_len, length-map-range_with_len, length-range_with_len}
@@ -13,7 +13,6 @@ use Rattle.std.proofs.lemmas.List.Sums.{sum_by-cons}
 use Rattle.base_words.specs.ListSums.{sum_z}
 use Rattle.base_words.proofs.Comparisons.{both_right}
 use Rattle.base_words.proofs.ListSums.{sum_z-cons}
-use Rattle.boxed_problem.specs.declared.parts.Entry.{Entry}
 use Rattle.smps_words.specs.CoreFacts.{IsShort}
 use Rattle.smps_words.specs.declared.core_file.Core.{Core}
 use Rattle.smps_words.specs.declared.periods.Periods.{Periods}
@@ -30,21 +29,19 @@ use Rattle.sp_model.specs.declared.program.Change.TheVariants.{Cost, Cell, Limit
 use Rattle.sp_model.specs.declared.program.Column.{Column}
 use Rattle.sp_model.specs.declared.program.Options.{Options}
 use Rattle.sp_model.specs.declared.program.Program.{Program}
-use Rattle.sp_model.specs.declared.program.Row.{Row}
 use Rattle.sp_model.specs.declared.program.Scenario.{Scenario}
 use Rattle.reach_core.specs.Within.{HasReach}
 use Rattle.smps_stoch.specs.StochFacts.{IsPlace}
-use Rattle.join_numbers.specs.Changing.{IsFrameOf}
-use Rattle.join_words.specs.Boxes.{boxes_of, is_idle}
+use Rattle.join_words.specs.Boxes.{is_idle}
 use Rattle.join_words.specs.Framing.{frame_of}
 use Rattle.join_words.specs.Joining.{source_of}
 use Rattle.join_words.specs.Parts.{firsts_of, parts_of, row_at}
-use Rattle.join_words.specs.RunOf.{change_of, column_of, columns_of, entries_of, has_many_cells, is_crowded, is_vast, lower_of, nonleaf_of, options_of, program_of, range_of, reach_of, row_of, rows_of, scaled_in, scenario_of, total_of, upper_of}
+use Rattle.join_words.specs.RunOf.{change_of, column_of, columns_of, entries_of, has_many_cells, is_crowded, is_vast, nonleaf_of, options_of, program_of, range_of, reach_of, row_of, rows_of, scaled_in, scenario_of, total_of}
 use Rattle.join_words.specs.declared.frame.Frame.{Frame}
 use Rattle.smps_join.specs.Joinable.{CanJoin}
-use Rattle.smps_join.specs.Unfit.{program_with, tree_in}
+use Rattle.smps_join.specs.Unfit.{program_with}
 use Rattle.smps_join.specs.Weights.{weight_sum}
-use Rattle.smps_join.proofs.ColumnFacts.{columns_are, columns_rise, first_is, nonleaf_is, nonleaf_le}
+use Rattle.smps_join.proofs.ColumnFacts.{columns_are, columns_rise, first_is, nonleaf_is}
 use Rattle.smps_join.proofs.EntriesKept.{entries_ascend, entries_stay, entries_there, idle_cost, idle_from_reach}
 use Rattle.smps_join.proofs.FromStoch.{all_parents, all_periods, count_some, each_entry, each_weight}
 use Rattle.smps_join.proofs.FrameIs.{frame_facts, frame_sides}

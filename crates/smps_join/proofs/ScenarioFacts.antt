@@ -1,6 +1,6 @@
 -- The scenarios of a run: their changes name what is there, no two are of one place, and those of columns with the single box 0 are left out.
-use Rattle.std.proofs.Common.{arith, refl, sym, ap, subst, ◌∙◌, ◌≡◌, ℕ, zero, suc, ◌+◌, ◌<◌, ◌≤◌, ◌==◌, max, nat_lt, Bool, true, false, not, ◌&&◌, List, [], ◌∷◌, map, length, get_or, ℤ, pos, negsuc, ◌+ℤ◌, ◌-ℤ◌, ◌≤ℤ◌, int_le, unsigned_abs, Option, Some, None, if◌then◌else◌}
-use Rattle.std.specs.Prelude.{IfSome, option_map}
+use Rattle.std.proofs.Common.{arith, refl, ◌≡◌, ℕ, suc, ◌<◌, nat_lt, Bool, true, false, List, [], ◌∷◌, length, ℤ, pos, ◌+ℤ◌, ◌-ℤ◌, unsigned_abs, Option, Some, None, if◌then◌else◌}
+use Rattle.std.specs.Prelude.{IfSome}
 use Rattle.std.specs.Int.{int_max, int_min}
 use Rattle.std.specs.List.{All, AllByRecursion, AllPairs, cons_option, filter_map}
 use Rattle.std.proofs.lemmas.Int.{clamps, ints}
@@ -9,7 +9,6 @@ use Rattle.std.proofs.lemmas.List.Kept.{AllPairs-cons}
 use Rattle.base_words.proofs.Comparisons.{both, test_from_most}
 use Rattle.boxed_problem.specs.declared.parts.Side.{Side}
 use Rattle.dec_core.specs.Scale.{scaled_to}
-use Rattle.dec_core.specs.declared.decimal.Decimal.{Decimal}
 use Rattle.smps_words.specs.declared.core_data.RowKind.{RowKind}
 use Rattle.smps_words.specs.declared.core_data.RowKind.TheVariants.{Less, Greater, Equal}
 use Rattle.smps_words.specs.declared.core_file.Core.{Core}

@@ -1,9 +1,9 @@
 -- The tree of a run: a node of the last stage has one scenario, and nodes lie in nodes.
-use Rattle.std.proofs.Common.{arith, refl, sym, ap, subst, ◌∙◌, ◌≡◌, ℕ, zero, suc, ◌+◌, ◌*◌, ◌^◌, ◌<◌, ◌≤◌, nat_le, Bool, true, false, List, length, get_or}
+use Rattle.std.proofs.Common.{arith, refl, sym, subst, ◌∙◌, ◌≡◌, ℕ, ◌<◌, ◌≤◌, nat_le, Bool, true, false, List, length, get_or}
 use Rattle.std.specs.List.{All, Contains}
 use Rattle.std.proofs.lemmas.List.{get_or_default}
 use Rattle.std.proofs.Math.Nat.{mul-le-mul}
-use Rattle.tree_core.specs.Marks.{AreNested, mark_of, tree_of}
+use Rattle.tree_core.specs.Marks.{mark_of, tree_of}
 use Rattle.tree_core.specs.Nodes.{IsNode}
 use Rattle.tree_core.specs.declared.tree.Node.{Node}
 use Rattle.tree_core.proofs.TreeLaws.{tree_few, tree_nested, tree_nodes, tree_once, tree_ordered, tree_shared}

@@ -1,12 +1,17 @@
 -- How many entries of the scenarios stay in the run.
-use Rattle.std.specs.Prelude.{ℕ, not, Bool, true, List}
+use Rattle.std.specs.Prelude.{ℕ, not, Bool, true, List, map}
 use Rattle.std.specs.List.{count_by, sum_by}
 use Rattle.boxed_problem.specs.declared.parts.Side.{Side}
 use Rattle.scenario_lists.specs.declared.data.ScenarioData.{ScenarioData}
 use Rattle.stoch_lines.specs.declared.places.StochEntry.{StochEntry}
 use Rattle.stoch_lines.specs.declared.places.StochPlace.{StochPlace}
 use Rattle.stoch_lines.specs.declared.places.StochPlace.TheVariants.{Cost, Cell, Right}
+use Rattle.join_words.specs.Boxes.{is_zero}
 use Rattle.join_words.specs.Powers.{stays}
+
+-- of each column whether it stays in the run
+abbrev pub live_of : List Side → List Bool
+live_of sides = map (λ side. not (is_zero side)) sides
 
 -- whether a place stays in the run
 abbrev pub is_live : List Side → StochPlace → Bool

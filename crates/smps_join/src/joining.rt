@@ -1,15 +1,17 @@
 ghost use Rattle.std.specs.Prelude.{◌≡◌, ◌<◌, ◌≤◌, false, length, pos};
 ghost use Rattle.smps_stoch.specs.StochFacts.{StochFacts};
-ghost use Rattle.scenario_lists.specs.ScenarioList.{count_of, scenarios_of};
+ghost use Rattle.scenario_lists.specs.Live.{live_scenarios};
+ghost use Rattle.scenario_lists.specs.ScenarioList.{count_of};
 ghost use Rattle.sp_model.specs.Facts.{OptionFacts};
 ghost use Rattle.join_words.specs.Framing.{frame_of};
 ghost use Rattle.join_words.specs.Joining.{IsTimely, Joins, source_of};
 ghost use Rattle.join_words.specs.RunOf.{has_many_cells, is_crowded, is_vast, nonleaf_of, options_of, program_of, total_of};
+ghost use Rattle.smps_join.specs.Counting.{live_of};
 ghost use Rattle.smps_join.specs.Cutting.{cut_options};
 ghost use Rattle.smps_join.specs.Joinable.{CanJoin};
 
 use crate::anticipation::{first_early, nonleaf};
-use crate::cells::{has_many_cells, has_many_changes};
+use crate::cells::{has_many_cells, live_columns};
 use crate::making::program;
 use crate::weighing::total;
 use capped_num::CAP;
@@ -17,10 +19,10 @@ use join_frame::frame;
 use join_numbers::MakeFault;
 use join_words::{Frame, JoinFault};
 use reach_core::run_reach;
-use scenario_lists::{ScenarioData, scenario_count, scenarios};
+use scenario_lists::{ListFault, ScenarioData, scenario_count, scenarios};
 use smps_stoch::Stoch;
 use smps_words::{Core, Periods};
-use sp_model::{Options, Program, Run};
+use sp_model::{MAX_CELLS, Options, Program, Run};
 use std::alloc::Global;
 use std::cmp;
 use wide_num::List;
@@ -73,7 +75,7 @@ fn reached(
     })
 }
 
-// The run of listed scenarios.
+// The run of listed scenarios, which have only entries that stay in it.
 fn weighed(
     alloc: Global,
     core: &Core,
@@ -89,7 +91,7 @@ fn weighed(
     requires few { is_crowded (source_of core.now periods.now stoch.now options.now) ≡ false }
     requires cells { is_vast (source_of core.now periods.now stoch.now options.now) ≡ false }
     requires frame { frame.now ≡ frame_of (source_of core.now periods.now stoch.now options.now) }
-    requires listed { listed.now ≡ scenarios_of stoch.now }
+    requires listed { listed.now ≡ live_scenarios (live_of frame.now.sides) stoch.now }
     requires nonleaf { nonleaf ≡ nonleaf_of (source_of core.now periods.now stoch.now options.now) }
     ensures { Joins result (source_of core.now periods.now stoch.now options.now) options.now }
 {
@@ -127,15 +129,16 @@ fn listed(
     let Ok(frame) = frame(alloc, core, periods, stoch, options.missing) else {
         return Err(JoinFault::Memory);
     };
-    let Ok(listed) = scenarios(alloc, stoch, count) else {
+    let Ok(live) = live_columns(alloc, &frame.sides) else {
         return Err(JoinFault::Memory);
     };
-    if has_many_changes(&frame.sides, listed.as_slice()) {
-        return Err(JoinFault::TooManyCells);
+    match scenarios(alloc, stoch, live.as_slice(), count, MAX_CELLS) {
+        Err(ListFault::TooManyEntries) => Err(JoinFault::TooManyCells),
+        Err(ListFault::Memory) => Err(JoinFault::Memory),
+        Ok(listed) => weighed(
+            alloc, core, periods, stoch, options, &frame, &listed, nonleaf,
+        ),
     }
-    weighed(
-        alloc, core, periods, stoch, options, &frame, &listed, nonleaf,
-    )
 }
 
 /// The run of a core, its periods, a stoch file and some options: missing ends

@@ -14,7 +14,7 @@ behind_step : (e f : Entry) (fs : List Entry) (k : ℕ) (t : Bool) → put_at e 
 behind_step e f fs k true = refl
 behind_step e f fs k false = refl
 
-behind_test : (e f : Entry) (fs : List Entry) (k : ℕ) → stands_at e (f ∷ fs) (suc k) ≡ stands_at e fs k
+pub behind_test : (e f : Entry) (fs : List Entry) (k : ℕ) → stands_at e (f ∷ fs) (suc k) ≡ stands_at e fs k
 behind_test e f fs k = let test : nat_lt (suc k) (suc (length fs)) ≡ nat_lt k (length fs) = grind arith in ap (λ t. t && is_at (get_or fs k no_entry) e) test
 
 -- behind an entry that stands before
@@ -27,7 +27,7 @@ put_behind e f fs h =
     ∙ ap (put_at e (f ∷ fs) (suc k)) (behind_test e f fs k)
     ∙ behind_step e f fs k (stands_at e fs k)
 
-front_test : (e f : Entry) (fs : List Entry) → stands_at e (f ∷ fs) 0 ≡ is_at f e
+pub front_test : (e f : Entry) (fs : List Entry) → stands_at e (f ∷ fs) 0 ≡ is_at f e
 front_test e f fs = let test : nat_lt 0 (suc (length fs)) ≡ true = grind arith in ap (λ t. t && is_at f e) test
 
 -- over an entry of the same place
@@ -48,21 +48,21 @@ IsChain [] = Unit {0}
 IsChain (f ∷ []) = Unit {0}
 IsChain (f ∷ g ∷ fs) = ComesBefore f g × IsChain (g ∷ fs)
 
-before_is : (f e : Entry) → is_before f e ≡ true → ComesBefore f e
+pub before_is : (f e : Entry) → is_before f e ≡ true → ComesBefore f e
 before_is f e h = by_column (f.column == e.column) refl h
   where
     by_column : (t : Bool) → (f.column == e.column) ≡ t → (if t then nat_lt f.row e.row else nat_lt f.column e.column) ≡ true → ComesBefore f e
     by_column true c g = let same : f.column ≡ e.column = grind arith in let less : f.row < e.row = grind arith in (omega arith, λ s. less)
     by_column false c g = let less : f.column < e.column = grind arith in (omega arith, λ s. absurd (omega arith))
 
-after_is : (f e : Entry) → is_before f e ≡ false → is_at f e ≡ false → ComesBefore e f
+pub after_is : (f e : Entry) → is_before f e ≡ false → is_at f e ≡ false → ComesBefore e f
 after_is f e h at = by_column (f.column == e.column) refl h at
   where
     by_column : (t : Bool) → (f.column == e.column) ≡ t → (if t then nat_lt f.row e.row else nat_lt f.column e.column) ≡ false → (t && (f.row == e.row)) ≡ false → ComesBefore e f
     by_column true c g a = let same : f.column ≡ e.column = grind arith in let less : e.row < f.row = grind arith in (omega arith, λ s. less)
     by_column false c g a = let less : e.column < f.column = grind arith in (omega arith, λ s. absurd (omega arith))
 
-same_place : (f e : Entry) → is_at f e ≡ true → (f.column ≡ e.column) × (f.row ≡ e.row)
+pub same_place : (f e : Entry) → is_at f e ≡ true → (f.column ≡ e.column) × (f.row ≡ e.row)
 same_place f e at = by_column (f.column == e.column) refl (f.row == e.row) refl at
   where
     by_column : (t : Bool) → (f.column == e.column) ≡ t → (u : Bool) → (f.row == e.row) ≡ u → (t && u) ≡ true → (f.column ≡ e.column) × (f.row ≡ e.row)
@@ -71,7 +71,7 @@ same_place f e at = by_column (f.column == e.column) refl (f.row == e.row) refl 
     by_column false c u r g = absurd (let x = g in cc)
 
 -- the head of a chain put over by an entry of its place
-over_head : (e f : Entry) (fs : List Entry) → is_at f e ≡ true → IsChain (f ∷ fs) → IsChain (e ∷ fs)
+pub over_head : (e f : Entry) (fs : List Entry) → is_at f e ≡ true → IsChain (f ∷ fs) → IsChain (e ∷ fs)
 over_head e f [] at h = tt
 over_head e f (g ∷ fs) at h = let same = same_place f e at in let first = h.0 in let before = first.0 in ((omega arith, λ s. let row = first.1 (same.0 ∙ s) in omega arith), h.1)
 

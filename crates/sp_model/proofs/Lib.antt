@@ -1,6 +1,9 @@
 pub mod Duality
 pub mod SumSome
 pub mod EntryOrder
+pub mod Putting
+pub mod MergeSteps
+pub mod Cells
 pub mod Sizes
 pub mod Bounds
 pub mod DataFacts

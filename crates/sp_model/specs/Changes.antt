@@ -1,8 +1,8 @@
 -- The data of a scenario: the core's, with each change of the scenario in its place.
 
-use Rattle.std.specs.Prelude.{ℕ, ◌==◌, ◌&&◌, nat_lt, Bool, List, ◌∷◌, length, map, ℤ, slice_set, slice_index_or, if◌then◌else◌}
+use Rattle.std.specs.Prelude.{ℕ, ◌+◌, ◌<◌, ◌==◌, ◌&&◌, nat_lt, Bool, List, [], ◌∷◌, ◌++◌, length, map, ℤ, slice_set, slice_index_or, if◌then◌else◌}
 use Rattle.std.specs.List.{fold, insert, prefix_len}
-use Rattle.boxed_problem.specs.Facts.{no_entry}
+use Rattle.boxed_problem.specs.Facts.{ComesBefore, entry_at, no_entry}
 use Rattle.boxed_problem.specs.declared.parts.Entry.{Entry}
 use Rattle.boxed_problem.specs.declared.parts.Limits.{Limits}
 use Rattle.boxed_problem.specs.declared.parts.Side.{Side}
@@ -50,6 +50,29 @@ stands_at e fs k = nat_lt k (length fs) && is_at (slice_index_or fs k no_entry) 
 -- an entry in the order of columns and rows: over the one of its place, else in between
 abbrev pub put_entry : Entry → List Entry → List Entry
 put_entry e fs = if stands_at e fs (place_of e fs) then slice_set fs (place_of e fs) e else insert fs (place_of e fs) e
+
+-- entries put in their places one after another, each later one over an earlier one of its place
+abbrev pub put_entries : List Entry → List Entry → List Entry
+put_entries es fs = fold (λ all f. put_entry f all) es fs
+
+-- how many entries an entry that is put in its place leaves behind it: those before it, and the one of its place
+abbrev pub passed_by : Entry → List Entry → ℕ
+passed_by e fs = if stands_at e fs (place_of e fs) then place_of e fs + 1 else place_of e fs
+
+-- ascending by column, and by row within a column
+abbrev pub AreAscending : List Entry → Type 0
+AreAscending es = (k : ℕ) → k + 1 < length es → ComesBefore (entry_at es k) (entry_at es (k + 1))
+
+-- the entry that a change gives, if it gives one
+abbrev pub cell_of : Change → List Entry
+cell_of (change.Cost column value) = []
+cell_of (change.Cell row column value) = record { row = row; column = column; value = value } ∷ []
+cell_of (change.Limits row lower upper) = []
+
+-- the entries that changes give, in their order
+abbrev pub cells_of : List Change → List Entry
+cells_of [] = []
+cells_of (c ∷ cs) = cell_of c ++ cells_of cs
 
 -- the data with a change in its place
 abbrev pub with_change : Data → Change → Data

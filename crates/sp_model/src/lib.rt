@@ -6,6 +6,7 @@ mod drafting;
 mod laws;
 mod limits;
 mod making;
+mod merging;
 mod placing;
 mod plan;
 mod program;

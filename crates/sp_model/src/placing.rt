@@ -1,8 +1,7 @@
-ghost use Rattle.std.specs.Prelude.{◌≡◌, OnOk};
-ghost use Rattle.sp_model.specs.Changes.{is_at, is_before, place_of, put_entry, stands_at};
+ghost use Rattle.std.specs.Prelude.{◌≡◌};
+ghost use Rattle.sp_model.specs.Changes.{is_at, is_before, place_of, stands_at};
 
 use boxed_problem::Entry;
-use std::alloc::AllocError;
 
 // Whether an entry stands before the place of another, by column and then by row.
 fn is_before(entry: &Entry, other: &Entry) -> bool
@@ -15,8 +14,8 @@ fn is_before(entry: &Entry, other: &Entry) -> bool
     }
 }
 
-// How many entries stand before the place of an entry.
-fn place_of(entries: &[Entry], entry: &Entry) -> usize
+/// How many entries stand before the place of an entry.
+pub fn place_of(entries: &[Entry], entry: &Entry) -> usize
     ensures { result ≡ place_of entry.now entries.now }
 {
     for i in 0..entries.len() {
@@ -34,28 +33,13 @@ fn is_at(entry: &Entry, other: &Entry) -> bool
     entry.column == other.column && entry.row == other.row
 }
 
-// Whether the entry at a place of the list is of the place of another.
-fn stands_at(entries: &[Entry], at: usize, entry: &Entry) -> bool
+/// Whether the entry at a place of the list is of the place of another.
+pub fn stands_at(entries: &[Entry], at: usize, entry: &Entry) -> bool
     ensures { result ≡ stands_at entry.now entries.now at }
 {
     if at < entries.len() {
         is_at(&entries[at], entry)
     } else {
         false
-    }
-}
-
-/// Puts an entry in its place in the order of columns and rows: over the one of
-/// its place, else in between.
-pub fn put_entry(entries: &mut Vec<Entry>, entry: Entry) -> Result<(), AllocError>
-    ensures { OnOk result (entries.new.items ≡ put_entry entry entries.old.items) }
-{
-    let at = place_of(entries.as_slice(), &entry);
-    if stands_at(entries.as_slice(), at, &entry) {
-        entries[at] = entry;
-        Ok(())
-    } else {
-        entries.insert(at, entry)?;
-        Ok(())
     }
 }

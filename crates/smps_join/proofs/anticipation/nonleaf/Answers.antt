@@ -1,4 +1,4 @@
-use Rattle.std.proofs.Common.{arith, sym, ap, ◌≡◌, ◌≤◌, ◌<◌, ◌+◌, ◌∙◌, ◌^◌}
+use Rattle.std.proofs.Common.{arith, sym, ap, ◌+◌, ◌∙◌}
 use Rattle.join_words.specs.Parts.{firsts_of}
 use Rattle.smps_join.proofs.Counted.{nonleaf_no, nonleaf_yes}
 use Rattle.smps_join.proofs.anticipation.nonleaf.Goals as goal

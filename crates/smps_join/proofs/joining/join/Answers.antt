@@ -1,9 +1,9 @@
-use Rattle.std.proofs.Common.{arith, refl, sym, subst, ap, ◌≡◌, ◌≤◌, ◌∙◌, length, List, true, false, Some, None}
+use Rattle.std.proofs.Common.{arith, sym, subst, ap, ◌≡◌, ◌≤◌, ◌∙◌, List, Some, None}
 use Rattle.smps_words.specs.declared.core_data.CoreEntry.{CoreEntry}
 use Rattle.scenario_lists.specs.ScenarioList.{count_of}
-use Rattle.join_words.specs.Joining.{IsTimely, source_of}
+use Rattle.join_words.specs.Joining.{source_of}
 use Rattle.join_words.specs.Parts.{IsFirstEarly, firsts_of}
-use Rattle.join_words.specs.RunOf.{has_many_cells, nonleaf_in, nonleaf_of}
+use Rattle.join_words.specs.RunOf.{nonleaf_in, nonleaf_of}
 use Rattle.smps_join.proofs.ColumnFacts.{nonleaf_le}
 use Rattle.smps_join.proofs.Refusing.{cells_many, crowded, not_crowded, vast_by_cells}
 use Rattle.smps_join.proofs.joining.join.Goals as goal

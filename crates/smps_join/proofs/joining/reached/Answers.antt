@@ -1,28 +1,33 @@
-use Rattle.std.proofs.Common.{rules, arith, sym, subst, ap, ◌≡◌, ◌≤◌, ◌<◌, ◌^◌, ◌∙◌, length, true, ℤ, FitsSigned}
+use Rattle.std.proofs.Common.{arith, sym, subst, ap, ◌≡◌, ◌≤◌, ◌<◌, ◌^◌, ◌∙◌, FitsSigned}
 use Rattle.std.proofs.lemmas.Int.{to_z-of_z}
 use Rattle.std.specs.Int.{w128}
 use Rattle.std.specs.List.{All}
 use Rattle.capped_num.specs.Capped.{capped}
-use Rattle.sp_model.specs.Facts.{is_change}
+use Rattle.sp_model.specs.Facts.{IsScenario}
 use Rattle.sp_model.specs.Reaching.{run_reach}
-use Rattle.sp_model.specs.declared.program.Options.{Options}
 use Rattle.sp_model.specs.declared.program.Program.{Program}
-use Rattle.sp_model.specs.declared.program.Scenario.{Scenario}
-use Rattle.reach_core.specs.Places.{AreThere}
+use Rattle.reach_core.specs.Places.{AreOrdered, AreThere}
+use Rattle.join_words.specs.Framing.{frame_of}
 use Rattle.join_words.specs.Joining.{source_of}
-use Rattle.join_words.specs.RunOf.{options_of, reach_of, total_of}
+use Rattle.join_words.specs.RunOf.{options_of, total_of}
 use Rattle.smps_join.specs.Cutting.{cut_options}
-use Rattle.smps_join.proofs.Refusing.{columns_long, nonleaf_there, not_wide, options_cut, reach_kept, reach_refused, reach_same, run_same}
-use Rattle.smps_join.proofs.RunIs.{has_reach, run_is}
+use Rattle.smps_join.proofs.EntriesKept.{entries_ascend}
+use Rattle.smps_join.proofs.Refusing.{nonleaf_there, not_wide, options_cut, reach_kept, reach_refused, reach_same, run_same}
+use Rattle.smps_join.proofs.RunIs.{has_reach, program_is, run_is}
 use Rattle.smps_join.proofs.joining.reached.Goals as goal
 
 pub run_reach-requires-clause-there : goal.run_reach-requires-clause-there
 run_reach-requires-clause-there c = subst (λ (p : Program). AreThere p) (sym c.requires.program) (has_reach c.args.core.now c.args.periods.now c.args.stoch.now c.args.options.now c.requires.can).there
 
-pub run_reach-requires-clause-changes : goal.run_reach-requires-clause-changes
-run_reach-requires-clause-changes c =
-    subst (λ (p : Program). All (λ (s : Scenario). All (λ e. is_change (length p.rows) (length p.columns) e ≡ true) s.changes) p.scenarios) (sym c.requires.program)
-    (λ k s lt. ((has_reach c.args.core.now c.args.periods.now c.args.stoch.now c.args.options.now c.requires.can).scenarios k s lt).changes)
+pub run_reach-requires-clause-ordered : goal.run_reach-requires-clause-ordered
+run_reach-requires-clause-ordered c =
+    let source = source_of c.args.core.now c.args.periods.now c.args.stoch.now c.args.options.now in
+    subst AreOrdered (sym (c.requires.program ∙ program_is c.args.core.now c.args.periods.now c.args.stoch.now c.args.options.now)) (entries_ascend c.args.core.now (frame_of source))
+
+pub run_reach-requires-clause-scenarios : goal.run_reach-requires-clause-scenarios
+run_reach-requires-clause-scenarios c =
+    subst (λ (p : Program). All (IsScenario p) p.scenarios) (sym c.requires.program)
+    (has_reach c.args.core.now c.args.periods.now c.args.stoch.now c.args.options.now c.requires.can).scenarios
 
 pub run_reach-requires-clause-nonleaf : goal.run_reach-requires-clause-nonleaf
 run_reach-requires-clause-nonleaf c = nonleaf_there c.args.core.now c.args.periods.now c.args.stoch.now c.args.options.now c.args.program c.args.nonleaf c.requires.program c.requires.nonleaf

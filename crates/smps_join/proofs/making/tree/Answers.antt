@@ -1,4 +1,4 @@
-use Rattle.std.proofs.Common.{arith, ap, ◌≡◌, ◌≤◌, ◌∙◌, length}
+use Rattle.std.proofs.Common.{arith, ap, ◌≤◌, length}
 use Rattle.std.proofs.Math.Nat.{mul-le-mul}
 use Rattle.scenario_lists.proofs.Nesting.{marks_long}
 use Rattle.smps_join.proofs.making.tree.Goals as goal

@@ -1,0 +1,4 @@
+pub mod Fresh
+pub mod Plain
+pub mod Seats
+pub mod Tracks

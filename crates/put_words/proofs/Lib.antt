@@ -1,0 +1,14 @@
+pub mod Bounded
+pub mod Bundles
+pub mod Cells
+pub mod Floors
+pub mod Following
+pub mod Inside
+pub mod Moves
+pub mod Points
+pub mod Pulls
+pub mod Rises
+pub mod Signed
+pub mod Spans
+pub mod Unpriced
+pub mod Weights

@@ -1,0 +1,165 @@
+-- How great the values of scenario problems become, with multipliers as prices, and hedged.
+
+use Rattle.std.proofs.Common.{arith, refl, sym, ap, ◌∙◌, ◌≡◌, ℕ, zero, suc, ◌+◌, ◌*◌, ◌^◌, ◌<◌, ◌≤◌, nat_le, nat_lt, Bool, true, false, List, length, ℤ, pos, ◌+ℤ◌, ◌*ℤ◌, unsigned_abs, Option, Some, None, if◌then◌else◌}
+use Rattle.std.proofs.lemmas.Int.{ints, unsigned_abs-mul}
+use Rattle.std.proofs.lemmas.List.{length-map}
+use Rattle.std.proofs.lemmas.List.FromFn.{get_or-map-range_with_len}
+use Rattle.std.proofs.Math.IntN.{*ℤ-zero}
+use Rattle.std.proofs.Math.Nat.{mul-add, mul-le-mul, mul_assoc, mul_comm}
+use Rattle.std.specs.Option.{option_map}
+use Rattle.base_words.specs.Sums.{number_at, size_below, sum_below}
+use Rattle.base_words.proofs.Magnitudes.{abs-add}
+use Rattle.base_words.proofs.SumBounds.{size_below-le, size_below-part, sum_below-abs}
+use Rattle.boxed_problem.specs.Data.{Problem}
+use Rattle.boxed_problem.specs.Facts.{column_size, value_size}
+use Rattle.boxed_problem.specs.Objective.{value_of, value_part}
+use Rattle.boxed_problem.specs.Optimum.{best_of, IsBest}
+use Rattle.boxed_problem.specs.Points.{InBox}
+use Rattle.boxed_problem.specs.Sides.{Filled}
+use Rattle.boxed_problem.specs.declared.parts.Best.{Best}
+use Rattle.boxed_problem.proofs.Magnitudes.{abs-curve, column_within}
+use Rattle.boxed_problem.proofs.Optimal.{best_is}
+use Rattle.sp_model.specs.Changes.{side_of, sides}
+use Rattle.run_calls.specs.MultiplierTests.{AreSized, most_at}
+use Rattle.sp_model.specs.Plans.{multiplier_of, with_prices}
+use Rattle.sp_model.specs.Problems.{data_at, factor_of, least_of, problem_in, scenarios}
+use Rattle.sp_model.specs.Reaching.{box_reach, cost_reach, hedge_part, hedge_reach}
+use Rattle.sp_model.specs.declared.plan.Multipliers.{Multipliers}
+use Rattle.sp_model.specs.declared.program.Program.{Program}
+use Rattle.sp_model.specs.declared.run.Run.{Run}
+use Rattle.sp_model.proofs.Bounds.{cost_le, factor_abs, reach_parts}
+use Rattle.sp_model.proofs.DataFacts.{data_keeps}
+use Rattle.run_calls.proofs.MostBounds.{none_from_test, some_from_test}
+use Rattle.sp_model.proofs.Sizes.{size_below-mono, size_below-times, times_at, zeros_at}
+
+-- the magnitude of a point's value
+value_abs : (p : Problem) (x : List ℤ) → InBox p.columns x → unsigned_abs (value_of p x) ≤ value_size p.columns p.constant p.line p.square
+value_abs p x inside =
+    let n = length p.columns in
+    let parts = sum_below-abs n (value_part p.line p.square x) (column_size p.columns p.line p.square) (λ k l. omega (arith, abs-curve (number_at p.line k) (number_at p.square k) (number_at x k), column_within p.columns p.line p.square x k inside l)) in
+    omega (arith, abs-add p.constant (sum_below n (value_part p.line p.square x)), parts)
+
+-- the magnitude of a least value
+pub least_abs : (p : Problem) (v : ℤ) → Filled p.columns → least_of p ≡ Some v → unsigned_abs v ≤ value_size p.columns p.constant p.line p.square
+least_abs p v filled e = by_best (best_of p) (best_is p (best_of p) filled refl) e
+  where
+    by_best : (o : Option Best) → IsBest p o → option_map (λ (best : Best). best.value) o ≡ Some v → unsigned_abs v ≤ value_size p.columns p.constant p.line p.square
+    by_best None h d = absurd (let y = d in cc)
+    by_best (Some best) h d =
+        let same : best.value ≡ v = cc in
+        omega (arith, ap unsigned_abs (sym same ∙ h.value), value_abs p best.point h.feasible.inside)
+
+-- the magnitude of a scenario's costs, but for their factor
+abbrev pub cost_span : Program → ℕ
+cost_span program = unsigned_abs program.constant + size_below (length program.columns) (λ j. cost_reach program j * box_reach program j)
+
+-- what a column of the scenario's problem adds
+abbrev pub line_part : Run → ℕ → ℕ → ℕ
+line_part run s j = unsigned_abs (number_at (problem_in run s).line j) * box_reach run.program j
+
+line_part_le : (run : Run) (s j : ℕ) → s < scenarios run → line_part run s j ≤ unsigned_abs (factor_of run s) * (cost_reach run.program j * box_reach run.program j)
+line_part_le run s j l =
+    let costs = (data_at run s).costs in
+    let m = box_reach run.program j in
+    let f = unsigned_abs (factor_of run s) in
+    let line : unsigned_abs (number_at (problem_in run s).line j) ≡ f * unsigned_abs (number_at costs j) = ap unsigned_abs (times_at (factor_of run s) costs j) ∙ unsigned_abs-mul (factor_of run s) (number_at costs j) in
+    let same : f ≤ f = omega arith in
+    let same_box : m ≤ m = omega arith in
+    let wide = mul-le-mul (mul-le-mul same (cost_le run s j l)) same_box in
+    omega (arith, ap (λ n. n * m) line, wide, mul_assoc f (cost_reach run.program j) m)
+
+-- the parts of all columns, with the constant
+pub line_parts_le : (run : Run) (s : ℕ) → s < scenarios run → unsigned_abs (factor_of run s *ℤ run.program.constant) + size_below (length run.program.columns) (line_part run s) ≤ unsigned_abs (factor_of run s) * cost_span run.program
+line_parts_le run s l =
+    let n = length run.program.columns in
+    let f = unsigned_abs (factor_of run s) in
+    let c : ℕ → ℕ = λ j. cost_reach run.program j * box_reach run.program j in
+    let parts = size_below-mono n (line_part run s) (λ j. f * c j) (λ j h. line_part_le run s j l) in
+    omega (arith, unsigned_abs-mul (factor_of run s) run.program.constant, parts, size_below-times n f c, mul-add f (unsigned_abs run.program.constant) (size_below n c))
+
+-- a sum of which only the first parts count
+pub cut_le : (n m : ℕ) (g : ℕ → ℕ) → size_below n (λ j. if nat_lt j m then g j else 0) ≤ size_below m g
+cut_le zero m g = omega arith
+cut_le (suc n) m g = by_test (nat_lt n m) refl (cut_le n m g)
+  where
+    one : (b : Bool) (k : ℕ) → (if b then k else 0) ≤ k
+    one true k = omega arith
+    one false k = omega arith
+
+    by_test : (b : Bool) → nat_lt n m ≡ b → size_below n (λ j. if nat_lt j m then g j else 0) ≤ size_below m g → size_below n (λ j. if nat_lt j m then g j else 0) + (if b then g n else 0) ≤ size_below m g
+    by_test true e r =
+        let below : suc n ≤ m = grind arith in
+        omega (arith, size_below-mono n (λ j. if nat_lt j m then g j else 0) g (λ k h. one (nat_lt k m) (g k)), size_below-le (suc n) m g below)
+    by_test false e r = omega (arith, r)
+
+pub sizes_add : (n : ℕ) (f g : ℕ → ℕ) → size_below n (λ k. f k + g k) ≡ size_below n f + size_below n g
+sizes_add zero f g = omega arith
+sizes_add (suc n) f g = omega (arith, sizes_add n f g)
+
+pub below_from_test : (a b : ℕ) → nat_lt a b ≡ true → a < b
+below_from_test a b e = grind arith
+
+-- a column's multiplier times its box: a part of the hedge in a nonleaf column, and 0 in another
+price_part_le : (run : Run) (multipliers : Multipliers) (s j : ℕ) → AreSized run multipliers → s < scenarios run → unsigned_abs (multiplier_of run multipliers s j) * box_reach run.program j ≤ (if nat_lt j run.nonleaf then hedge_part run.program run.options run.total j else 0)
+price_part_le run multipliers s j sized l = by_test (nat_lt j run.nonleaf) refl
+  where
+    by_test : (b : Bool) → nat_lt j run.nonleaf ≡ b → unsigned_abs (if b then number_at multipliers.values (s * run.nonleaf + j) else pos 0) * box_reach run.program j ≤ (if b then hedge_part run.program run.options run.total j else 0)
+    by_test true e =
+        let below = below_from_test j run.nonleaf e in
+        let own : unsigned_abs (number_at multipliers.values (s * run.nonleaf + j)) ≤ most_at run j = omega (arith, sized s j l below, ap (λ b. unsigned_abs (if b then number_at multipliers.values (s * run.nonleaf + j) else pos 0)) e) in
+        let twice : unsigned_abs (number_at multipliers.values (s * run.nonleaf + j)) ≤ 2 * most_at run j = omega arith in
+        let same : box_reach run.program j ≤ box_reach run.program j = omega arith in
+        omega (arith, mul-le-mul twice same)
+    by_test false e = omega (arith, ints)
+
+-- the costs of a scenario, as many as there are columns
+pub costs_long : (run : Run) (s : ℕ) → s < scenarios run → length (problem_in run s).line ≡ length run.program.columns
+costs_long run s l = length-map (data_at run s).costs (λ cost. factor_of run s *ℤ cost) ∙ (data_keeps run s l).costs_long
+
+-- the cost of a column with a price
+pub priced_at : (run : Run) (multipliers : Multipliers) (s j : ℕ) → j < length run.program.columns → number_at (with_prices (problem_in run s) (multiplier_of run multipliers s)).line j ≡ number_at (problem_in run s).line j +ℤ multiplier_of run multipliers s j
+priced_at run multipliers s j h = get_or-map-range_with_len (λ k. number_at (problem_in run s).line k +ℤ multiplier_of run multipliers s k) 0 (length (sides run.program)) j j (pos 0) (omega (arith, length-map run.program.columns side_of)) (omega arith)
+
+-- the size of a problem with multipliers as prices
+pub priced_span : (run : Run) (multipliers : Multipliers) (s : ℕ) → AreSized run multipliers → s < scenarios run →
+    value_size (sides run.program) (problem_in run s).constant (with_prices (problem_in run s) (multiplier_of run multipliers s)).line (problem_in run s).square ≤ unsigned_abs (factor_of run s) * cost_span run.program + hedge_reach run.program run.options run.total run.nonleaf
+priced_span run multipliers s sized l =
+    let n = length run.program.columns in
+    let line = (with_prices (problem_in run s) (multiplier_of run multipliers s)).line in
+    let costs = (data_at run s).costs in
+    let part = hedge_part run.program run.options run.total in
+    let size : ℕ → ℕ = λ j. line_part run s j + (if nat_lt j run.nonleaf then part j else 0) in
+    let each = size_below-mono n (column_size (sides run.program) line (problem_in run s).square) size (λ j h.
+    let m = box_reach run.program j in
+    let base = number_at (problem_in run s).line j in
+    let price = multiplier_of run multipliers s j in
+    let same : m ≤ m = omega arith in
+    let added = mul-le-mul (abs-add base price) same in
+    let split : (unsigned_abs base + unsigned_abs price) * m ≡ unsigned_abs base * m + unsigned_abs price * m = mul_comm (unsigned_abs base + unsigned_abs price) m ∙ mul-add m (unsigned_abs base) (unsigned_abs price) ∙ omega (arith, mul_comm m (unsigned_abs base), mul_comm m (unsigned_abs price)) in
+    let flat = ap (λ z. unsigned_abs z * (m * m)) (zeros_at costs j) in
+    omega (arith, ap (λ z. unsigned_abs z * m) (priced_at run multipliers s j h), added, split, flat, price_part_le run multipliers s j sized l)) in
+    let long = ap (λ k. size_below k (column_size (sides run.program) line (problem_in run s).square)) (length-map run.program.columns side_of) in
+    omega (arith, each, long, sizes_add n (line_part run s) (λ j. if nat_lt j run.nonleaf then part j else 0), cut_le n run.nonleaf part, line_parts_le run s l)
+
+-- the cost of a column in a scenario's problem
+pub line_small : (run : Run) (s j : ℕ) → s < scenarios run → j < length run.program.columns → unsigned_abs (number_at (problem_in run s).line j) ≤ 2 ^ 122
+line_small run s j l h = by_box (nat_le 1 (box_reach run.program j)) refl
+  where
+    by_box : (b : Bool) → nat_le 1 (box_reach run.program j) ≡ b → unsigned_abs (number_at (problem_in run s).line j) ≤ 2 ^ 122
+    by_box true e =
+        let some = some_from_test (box_reach run.program j) e in
+        let cost = unsigned_abs (number_at (problem_in run s).line j) in
+        let same : cost ≤ cost = omega arith in
+        let wide = mul-le-mul same some in
+        let span = cost_span run.program in
+        let same_span : span ≤ span = omega arith in
+        let line = mul-le-mul (factor_abs run s l) same_span in
+        let total = (reach_parts run).0 in
+        omega (arith, wide, size_below-part (length run.program.columns) (line_part run s) j h, line_parts_le run s l, line, total)
+    by_box false e =
+        let none = none_from_test (box_reach run.program j) e in
+        let costs = (data_at run s).costs in
+        let free = (data_keeps run s l).idle j none in
+        let zero : number_at (problem_in run s).line j ≡ pos 0 = times_at (factor_of run s) costs j ∙ ap (λ z. factor_of run s *ℤ z) free ∙ *ℤ-zero (factor_of run s) in
+        let nothing : unsigned_abs (number_at (problem_in run s).line j) ≡ 0 = ap unsigned_abs zero in
+        omega arith

@@ -1,0 +1,4 @@
+pub mod MemberSums
+pub mod MostBounds
+pub mod MultiplierFaults
+pub mod NumberedAnswers
