@@ -68,6 +68,20 @@ build_driver() {
     driver=$folder/out/$name
 }
 
+# $work/measure.py COMMAND WORD..: runs the command and prints its status, its seconds
+# of a processor and its greatest memory in bytes, and behind them what it wrote. It
+# stands alone, since a process that is started begins with its parent's greatest memory.
+cat >"$work/measure.py" <<'PY'
+import os, subprocess, sys
+
+program = subprocess.Popen(sys.argv[1:], stdout=subprocess.PIPE, stderr=subprocess.STDOUT)
+text = program.stdout.read().decode(errors="replace")
+_, status, usage = os.wait4(program.pid, 0)
+program.returncode = os.waitstatus_to_exitcode(status)
+print(program.returncode, usage.ru_utime + usage.ru_stime, usage.ru_maxrss * 1024)
+print(text, end="")
+PY
+
 # The processors and how busy they are, since the figures depend on both.
 print_machine() {
     python3 - <<'PY'

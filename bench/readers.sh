@@ -65,7 +65,7 @@ DRIVER
 
 print_machine
 python3 - "$driver" "$work" <<'PY'
-import os, pathlib, shutil, subprocess, sys
+import pathlib, shutil, subprocess, sys
 
 driver, work = sys.argv[1], pathlib.Path(sys.argv[2])
 MB = 1 << 20
@@ -98,14 +98,13 @@ def comment_file(size):
     return line * ((size - len(core)) // len(line)) + core
 
 
-def run(command, allowed=(0,)):
-    program = subprocess.Popen(command, stdout=subprocess.PIPE, stderr=subprocess.STDOUT)
-    text = program.stdout.read().decode(errors="replace")
-    _, status, usage = os.wait4(program.pid, 0)
-    program.returncode = os.waitstatus_to_exitcode(status)
-    if program.returncode not in allowed:
-        sys.exit(f"{command[0]} ended with {program.returncode}: {text[-500:]}")
-    return text.split(), usage.ru_utime + usage.ru_stime, usage.ru_maxrss * 1024
+def run(command):
+    measured = subprocess.run([sys.executable, work / "measure.py", *command], capture_output=True, text=True, check=True)
+    head, _, text = measured.stdout.partition("\n")
+    status, seconds, peak = head.split()
+    if status != "0":
+        sys.exit(f"{command[0]} ended with {status}: {text[-500:]}")
+    return text.split(), float(seconds), int(peak)
 
 
 glpsol = shutil.which("glpsol")

@@ -19,6 +19,7 @@ use Rattle.boxed_problem.proofs.Lying.{Lies, filled_at, on_lies, within_at, with
 use Rattle.base_words.proofs.Comparisons.{below_from_test}
 use Rattle.base_words.proofs.Products.{times_order}
 use Rattle.branch_bound.specs.Bettering.{IsMost, IsSlack, KeepsSlack, Narrows}
+use Rattle.branch_bound.specs.ValueGrid.{Apart, IsGrid}
 use Rattle.branch_bound.specs.Narrowing.{NoneBelow}
 use Rattle.propagate.specs.SparseParts.{IsOf}
 use Rattle.propagate.specs.Tightening.{HoldsNone, HoldsSame}
@@ -109,13 +110,13 @@ slack_stays b r best inner outer slack w s = record {
 pub slack_is : (b : Problem) (best : Option Best) (scale total most slack : ℤ) → IsMost b best scale most → total ≤ℤ most → slack ≡ (most -ℤ total) → IsSlack b best scale total slack
 slack_is b best scale total most slack h l e = record { least_slack = omega (arith, ints, e, l); most = λ x i d. let p = h x i d in omega (arith, ints, e, p) }
 
--- a value below the best is at most one less
-pub most_is : (b : Problem) (best : Best) (scale most : ℤ) → pos 1 ≤ℤ scale → most ≡ (scale *ℤ (best.value -ℤ pos 1)) → IsMost b (Some best) scale most
-most_is b best (pos n) most p e x i d =
+-- the scale times the greatest number of the grid below the best is the most
+pub most_is : (b : Problem) (best : Best) (base step scale below most : ℤ) → pos 1 ≤ℤ scale → IsGrid b base step → ((v : ℤ) → Apart step v base → v <ℤ best.value → v ≤ℤ below) → most ≡ (scale *ℤ below) → IsMost b (Some best) scale most
+most_is b best base step (pos n) below most p g h e x i d =
     let l = below_from_test (value_of b x) best.value d in
-    let o = times_order n (value_of b x) (best.value -ℤ pos 1) (omega (arith, ints, l)) in
+    let o = times_order n (value_of b x) below (h (value_of b x) (g.apart x i) l) in
     omega (arith, ints, o, e)
-most_is b best (negsuc n) most p e x i d = absurd (omega (arith, ints))
+most_is b best base step (negsuc n) below most p g h e x i d = absurd (omega (arith, ints))
 
 -- where the total is above the most nothing is below the best
 pub total_none : (b : Problem) (r : Reduced) (best : Option Best) (sides : List Side) (most : ℤ) → IsUnder b r → Within sides b.columns → IsMost b best r.scale most → most <ℤ reduced_total r sides → NoneBelow b best sides

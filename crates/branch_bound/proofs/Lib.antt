@@ -5,6 +5,7 @@ pub mod Cutting
 pub mod CurveCuts
 pub mod Descending
 pub mod FrameLaws
+pub mod GridLaws
 pub mod HalfLaws
 pub mod Opening
 pub mod SearchLaws

@@ -10,6 +10,8 @@ use Rattle.boxed_problem.specs.declared.parts.Best.{Best}
 use Rattle.boxed_problem.specs.declared.parts.Prices.{Prices}
 use Rattle.boxed_problem.specs.declared.parts.Side.{Side}
 use Rattle.branch_bound.specs.Narrowing.{KeepsBetter}
+use Rattle.branch_bound.specs.ValueGrid.{IsGrid}
+use Rattle.branch_bound.specs.declared.gridding.Grid.{Grid}
 use Rattle.branch_bound.specs.declared.pricing.Pricing.{Pricing}
 use Rattle.propagate.specs.Ranged.{IsInside}
 use Rattle.propagate.specs.Trails.{KeepsAllMarks}
@@ -38,12 +40,13 @@ pub record KeepsSlack (line square : ℤ) (side : Side) (slack : ℤ) (new : Sid
   pub inside : IsInside new side
   pub keeps : (x : ℤ) → side.lower ≤ℤ x → x ≤ℤ side.upper → (curve line square x -ℤ least_on line square side) ≤ℤ slack → (new.lower ≤ℤ x) × (x ≤ℤ new.upper)
 
--- prices that fit a problem, the problem's own objective and the one that prices reduce, which stay under the problem's
-pub record IsPricing (b : Problem) (prices : Prices) (plain priced : Reduced) : Type 0 where
+-- prices that fit a problem, the problem's own objective and the one that prices reduce, which stay under the problem's, and the grid of its values
+pub record IsPricing (b : Problem) (prices : Prices) (plain priced : Reduced) (grid : Grid) : Type 0 where
   pub fit : FitsPrices b prices
   pub plain_under : IsUnder b plain
   pub priced_under : IsUnder b priced
+  pub values : IsGrid b grid.base grid.step
 
 -- what a search prices its boxes by is right for a problem
 abbrev pub IsPriced : Problem → Pricing → Type 0
-IsPriced b p = IsPricing b p.prices p.plain p.priced
+IsPriced b p = IsPricing b p.prices p.plain p.priced p.grid

@@ -7,3 +7,4 @@ pub mod Halves
 pub mod PlainSearch
 pub mod PlainStep
 pub mod SmallExample
+pub mod ValueGrid

@@ -2,34 +2,39 @@ ghost use Rattle.std.specs.Prelude.{◌≡◌, ◌<◌, ◌≤ℤ◌, ◌-ℤ◌
 ghost use Rattle.boxed_problem.specs.Data.{problem_of};
 ghost use Rattle.branch_bound.specs.Bettering.{IsMost, IsSlack, Narrows};
 ghost use Rattle.branch_bound.specs.Narrowing.{NoneBelow};
+ghost use Rattle.branch_bound.specs.ValueGrid.{IsGrid};
 ghost use Rattle.propagate.specs.SparseParts.{IsOf};
 ghost use Rattle.safe_bound.specs.ReducedOf.{IsUnder, reduced_total};
 
 use crate::curving::column_cut;
+use crate::gridding::{Grid, greatest_below};
 use boxed_problem::{Best, Boxed};
 use propagate::{Sparse, Trail, replace_side};
 use safe_bound::{Reduced, total_from};
 use std::alloc::AllocError;
 
-/// The scale times one less than a value, or none where that is too wide.
-fn scaled_below(value: i128, scale: i128) -> Option<i128>
-    ensures { IfSome result (λ most. most ≡ (scale *ℤ (value -ℤ pos 1))) }
+/// The scale times a number, or none where that is too wide.
+fn scaled(number: i128, scale: i128) -> Option<i128>
+    ensures { IfSome result (λ most. most ≡ (scale *ℤ number)) }
 {
-    let below = value.checked_sub(1)?;
-    scale.checked_mul(below)
+    scale.checked_mul(number)
 }
 
 /// The greatest that the scale times a value below the best so far can be; none
 /// where there is no best, or the number is too wide.
-fn most_below(problem: &Boxed, best: &Option<Best>, scale: i128) -> Option<i128>
-    requires { pos 1 ≤ℤ scale }
+fn most_below(problem: &Boxed, grid: Grid, best: &Option<Best>, scale: i128) -> Option<i128>
+    requires grid { IsGrid (problem_of problem.now) grid.base grid.step }
+    requires scale { pos 1 ≤ℤ scale }
     ensures { IfSome result (λ most. IsMost (problem_of problem.now) best.now scale most) }
 {
     let _problem = problem;
     let Some(best) = best else {
         return None;
     };
-    let Some(most) = scaled_below(best.value, scale) else {
+    let Some(below) = greatest_below(grid, best.value) else {
+        return None;
+    };
+    let Some(most) = scaled(below, scale) else {
         return None;
     };
     Some(most)
@@ -80,17 +85,19 @@ pub fn narrow_by(
     problem: &Boxed,
     sparse: &Sparse,
     reduced: &Reduced,
+    grid: Grid,
     best: &Option<Best>,
     trail: &mut Trail,
 ) -> Result<bool, AllocError>
     requires of { IsOf (problem_of problem.now) sparse.now }
     requires sparse { sparse.now ≡ trail.old.sparse.value }
     requires under { IsUnder (problem_of problem.now) reduced.now }
+    requires grid { IsGrid (problem_of problem.now) grid.base grid.step }
     ensures narrows { OnOk result (Narrows (problem_of problem.now) best.now trail.old trail.new) }
     ensures none { IfOk result
         (λ some. some ≡ false → NoneBelow (problem_of problem.now) best.now trail.new.sides) }
 {
-    let Some(most) = most_below(problem, best, reduced.scale) else {
+    let Some(most) = most_below(problem, grid, best, reduced.scale) else {
         return Ok(true);
     };
     let total = total_from(reduced, &trail.sides);

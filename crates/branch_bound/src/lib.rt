@@ -7,6 +7,7 @@ mod curving;
 mod fault;
 mod first_values;
 mod frames;
+mod gridding;
 mod halving;
 mod narrowing;
 mod pacing;

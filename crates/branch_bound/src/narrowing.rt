@@ -50,10 +50,10 @@ fn narrow_by_prices(
     ensures none { IfOk result
         (λ some. some ≡ false → NoneBelow (problem_of problem.now) best.now trail.new.sides) }
 {
-    if !narrow_by(problem, sparse, &pricing.plain, best, trail)? {
+    if !narrow_by(problem, sparse, &pricing.plain, pricing.grid, best, trail)? {
         return Ok(false);
     }
-    let some = narrow_by(problem, sparse, &pricing.priced, best, trail)?;
+    let some = narrow_by(problem, sparse, &pricing.priced, pricing.grid, best, trail)?;
     Ok(some)
 }
 
@@ -73,17 +73,22 @@ fn narrow(
     ensures none { IfOk result
         (λ some. some ≡ false → NoneBelow (problem_of problem.now) best.now trail.old.sides) }
 {
+    let mut seen = usize::MAX;
     for _ in 0..TURNS {
         if !narrow_by_rows(problem, sparse, trail)? {
             return Ok(false);
         }
-        let before = trail.changes.len();
+        if trail.changes.len() == seen {
+            break;
+        }
+        seen = trail.changes.len();
         if !narrow_by_prices(problem, sparse, pricing, best, trail)? {
             return Ok(false);
         }
-        if trail.changes.len() == before {
+        if trail.changes.len() == seen {
             break;
         }
+        seen = trail.changes.len();
     }
     Ok(true)
 }

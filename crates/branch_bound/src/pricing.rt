@@ -5,6 +5,7 @@ ghost use Rattle.boxed_problem.specs.Sides.{Within};
 ghost use Rattle.base_words.specs.Sums.{number_at};
 ghost use Rattle.branch_bound.specs.Bettering.{IsPriced};
 
+use crate::gridding::{Grid, grid_of};
 use crate::pacing::Pace;
 use boxed_problem::{Boxed, Prices, Side};
 use row_prices::improve;
@@ -15,13 +16,14 @@ use wide_num::List;
 /// The scale of the prices, where it fits.
 const SCALE: i128 = 1 << 20;
 
-/// What bounds the values in a box: the objective itself, and the objective
-/// with the present prices taken into it.
+/// What bounds the values in a box: the objective itself, the objective with
+/// the present prices taken into it, and the grid of the values.
 #[derive(Drop)]
 pub struct Pricing {
     pub prices: Prices,
     pub plain: Reduced,
     pub priced: Reduced,
+    pub grid: Grid,
     pub pace: Pace,
 }
 
@@ -68,10 +70,12 @@ pub fn pricing_of(alloc: Global, problem: &Boxed) -> Result<Pricing, AllocError>
     let plain = reduce_by(problem, &none)?;
     let prices = first_prices(alloc, problem)?;
     let priced = reduce_by(problem, &prices)?;
+    let grid = grid_of(alloc, problem)?;
     Ok(Pricing {
         prices,
         plain,
         priced,
+        grid,
         pace: Pace::first(),
     })
 }

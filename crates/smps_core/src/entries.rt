@@ -1,4 +1,4 @@
-ghost use Rattle.std.specs.Prelude.{◌≡◌, ◌≤◌, [], ◌∷◌, ◌++◌, IfOk, if◌then◌else◌, OnOk};
+ghost use Rattle.std.specs.Prelude.{◌≡◌, ◌<◌, ◌≤◌, length, [], ◌∷◌, ◌++◌, IfOk, if◌then◌else◌, OnOk};
 ghost use Rattle.std.specs.List.{All};
 ghost use Rattle.std.specs.List.Sorted.{IsNonDecreasingBy, IsPermutation};
 ghost use Rattle.smps_words.specs.CoreFacts.{max_rows};
@@ -44,12 +44,59 @@ fn place_number(entry: &CoreEntry) -> u64
     u64::from(entry.column) * 4_294_967_296 + u64::from(entry.row)
 }
 
-// The same entries by their places.
+// Where the entries of one column end that stand together from a place on.
+fn column_end(entries: &[CoreEntry], start: usize) -> usize
+    requires { start < length entries.now }
+    ensures after { start < result }
+    ensures within { result ≤ length entries.now }
+{
+    let column = entries[start].column;
+    let mut end = start + 1;
+    while end < entries.len() && entries[end].column == column {
+        end += 1;
+    }
+    end
+}
+
+// Sorts the entries between two places by row.
+fn sort_part(entries: &mut [CoreEntry], start: usize, end: usize)
+    requires ordered { start ≤ end }
+    requires within { end ≤ length entries.old }
+    ensures moved { IsPermutation entries.old entries.new }
+    ensures long { length entries.new ≡ length entries.old }
+{
+    entries[start..end].sort_unstable_by_key(|entry| entry.row);
+}
+
+// Sorts the entries of each column by row, as far as they stand together.
+fn sort_columns(entries: &mut [CoreEntry])
+    ensures { IsPermutation entries.old entries.new }
+{
+    let count = entries.len();
+    let mut start = 0;
+    while start < count {
+        let end = column_end(entries, start);
+        sort_part(entries, start, end);
+        start = end;
+    }
+}
+
+// The same entries, those of each column that stand together by row.
+fn by_columns(entries: List<CoreEntry>) -> Vec<CoreEntry>
+    ensures { IsPermutation entries result.items }
+{
+    let mut items = entries.into_vec();
+    sort_columns(items.as_mut_slice());
+    items
+}
+
+// The same entries by their places. Where the columns ascend, as in a file they do, all
+// are in order already once each column is, and the sort ends after one look at them.
 fn sorted(entries: List<CoreEntry>) -> List<CoreEntry>
     ensures same { IsPermutation entries result }
     ensures rise { IsNonDecreasingBy place_number result }
 {
-    let mut items = entries.into_vec();
+    let mut items = by_columns(entries);
     items.sort_unstable_by_key(|entry| place_number(entry));
     List::from_vec(items)
 }

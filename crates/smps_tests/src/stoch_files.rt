@@ -212,14 +212,22 @@ fn limits_are_told(rt: HostRuntime) -> Result<(), Fail> {
         stoch_text(rt.alloc(), &PAIR, text.as_bytes())?.as_str(),
         "2 LongLine"
     );
+    // A comment may be longer.
+    let text = format!(in rt.alloc(); "*{long}\nBLOCKS\n{long}x")?;
+    assert_eq!(rt;
+        stoch_text(rt.alloc(), &PAIR, text.as_bytes())?.as_str(),
+        "3 LongLine"
+    );
     let mut many = String::new(rt.alloc());
     many.push_str("SCENARIOS\n")?;
     for number in 0..4096 {
-        many = format!(in rt.alloc(); "{many} SC S{number} ROOT 1 T2\n")?;
+        let line = format!(in rt.alloc(); " SC S{number} ROOT 1 T2\n")?;
+        many.push_str(line.as_str())?;
     }
     for (line, said) in [
         (" SC S0 NONE 1", "4098 Fields"),
         (" SC S0 NONE 0 T9", "4098 Limit"),
+        (" SC S4096 S4095 1 T2", "4098 Limit"),
         ("ENDATA x", "4098 Fields"),
     ] {
         let text = format!(in rt.alloc(); "{many}{line}\n")?;

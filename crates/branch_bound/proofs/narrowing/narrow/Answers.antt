@@ -59,8 +59,16 @@ loop-preserved c =
     let all = narrows_trans b best old rowed c.narrow_by_prices.new.trail settled c.in_ok-narrow_by_prices.ensures.narrows in
     record { narrows = all; same = same_on c.args.sparse.now old c.narrow_by_prices.new.trail c.requires.sparse all.marks }
 
-pub returns-then-len-before-clause-narrows : goal.returns-then-len-before-clause-narrows
-returns-then-len-before-clause-narrows c =
+pub returns-then-len-seen-clause-narrows : goal.returns-then-len-seen-clause-narrows
+returns-then-len-seen-clause-narrows c =
+    let b = problem_of c.args.problem.now in
+    let best = c.args.best.now in
+    let at = c.loop.trail in
+    let rowed = c.narrow_by_rows.new.trail in
+    narrows_trans b best c.args.trail.now at rowed c.loop.invariant.narrows (narrows_rows b best at rowed c.in_ok-narrow_by_rows.ensures.holds c.in_ok-narrow_by_rows.ensures.marks)
+
+pub returns-then-len-seen-2-clause-narrows : goal.returns-then-len-seen-2-clause-narrows
+returns-then-len-seen-2-clause-narrows c =
     let b = problem_of c.args.problem.now in
     let best = c.args.best.now in
     let old = c.args.trail.now in
