@@ -7,7 +7,8 @@
 # way round; `lots N`, production with setups and stock over N periods;
 # `capacity K`, K kinds of capacity and what they serve; `units H U`, U units over
 # H hours, on or off, with what is shed; `farm NAME`, a farmer's sales and
-# purchases after a harvest. A driver program searches each with a budget of a
+# purchases after a harvest; `split N`, three sums that are to be met exactly. A
+# driver program searches each with a budget of a
 # million boxes, and then looks for the least budget that is enough. The same
 # driver has the plain search: no narrowing, no prices, the boxes copied.
 # Each row has that least budget (or that the million was spent), the least value, the
@@ -18,8 +19,8 @@
 # searches that spend their budget. All seconds are seconds of a processor.
 #
 # Needs: rt, python3; cbc and glpsol if they are to be measured beside.
-# Takes: some three minutes, and some minutes before it where the crates are not
-# proved yet.
+# Takes: some ten minutes, most of them in rows that don't end within the million,
+# and before it the proof of the driver, and of the crates where they aren't proved.
 # Use: bench/search.sh
 
 . "$(dirname "${BASH_SOURCE[0]}")/common.sh"
@@ -336,7 +337,7 @@ python3 - "$driver" "$work" <<'PY'
 import random, resource, shutil, subprocess, sys
 
 driver, work = sys.argv[1], sys.argv[2]
-MOST, PLAIN_MOST = 1_000_000, 5_000_000
+MOST, PLAIN_MOST = 1_000_000, 2_000_000
 LOWER, UPPER, BOTH = 0, 1, 2
 
 
@@ -387,6 +388,14 @@ def capacity(kinds, demands, most):
         entries += [(len(rows), kinds + a * demands + b, draw.randint(1, 3)) for a in range(kinds)]
         rows.append((LOWER, draw.randint(most // 4, most // 2)))
     return columns, rows, sorted(entries, key=lambda e: (e[1], e[0]))
+
+
+def split(n, most):
+    draw = random.Random(n)
+    weights = [[draw.randint(1, 99) for _ in range(n)] for _ in range(3)]
+    columns = [(0, most, draw.randint(1, 99)) for _ in range(n)]
+    rows = [(BOTH, sum(row) * most // 2) for row in weights]
+    return columns, rows, [(i, j, weights[i][j]) for j in range(n) for i in range(3)]
 
 
 def units(hours, count):
@@ -494,7 +503,7 @@ for name, problem in FAMILIES:
     print(f"{name:>12} {size:>9} {boxes:>8} {found:>12} {seconds:>9.4f} {plain:>12} {nanos / 1e9:>9.4f} {times:>8} {cbc:>7} {glpsol:>7}", flush=True)
 
 print(f"\n{'problem':>12} {'size':>9} {'budget':>9} {'seconds':>9} {'boxes/s':>10}")
-SPEEDS = [("covering 10", covering(10)), ("capacity 2", capacity(2, 4, 1000)), ("lots 18", lots(18)), ("units 24 3", units(24, 3)), ("capacity 9", capacity(9, 10, 1000))]
+SPEEDS = [("split 10", split(10, 30)), ("lots 18", lots(18)), ("split 100", split(100, 1)), ("capacity 9", capacity(9, 10, 1000)), ("units 24 3", units(24, 3))]
 for name, problem in SPEEDS:
     budget = 100_000
     found, seconds = search(problem, budget)
