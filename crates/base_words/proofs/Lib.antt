@@ -3,6 +3,7 @@ pub mod FirstAnswers
 pub mod Gathering
 pub mod ListSums
 pub mod ListSumsByNumber
+pub mod Made
 pub mod Magnitudes
 pub mod Products
 pub mod SumBounds

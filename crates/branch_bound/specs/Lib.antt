@@ -8,3 +8,17 @@ pub mod PlainSearch
 pub mod PlainStep
 pub mod SmallExample
 pub mod ValueGrid
+pub use Rattle.base_words.specs.Sums
+pub use Rattle.boxed_problem.specs.Data
+pub use Rattle.boxed_problem.specs.Objective
+pub use Rattle.boxed_problem.specs.Optimum
+pub use Rattle.boxed_problem.specs.Points
+pub use Rattle.boxed_problem.specs.PriceFit
+pub use Rattle.boxed_problem.specs.Sides
+pub use Rattle.propagate.specs.Ranged
+pub use Rattle.propagate.specs.Ranges
+pub use Rattle.propagate.specs.SparseParts
+pub use Rattle.propagate.specs.Tightening
+pub use Rattle.propagate.specs.Trails
+pub use Rattle.safe_bound.specs.Leasts
+pub use Rattle.safe_bound.specs.ReducedOf

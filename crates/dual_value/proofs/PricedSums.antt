@@ -1,33 +1,26 @@
 -- Costs with prices fit; sums of least values with prices, and why there is none.
 
-use Rattle.std.proofs.Common.{arith, refl, sym, ap, subst, ◌∙◌, ◌≡◌, ℕ, ◌+◌, ◌*◌, ◌^◌, ◌<◌, ◌≤◌, ◌⊎◌, inl, inr, nat_lt, Bool, true, false, List, [], ◌∷◌, ◌++◌, map, length, ℤ, pos, ◌+ℤ◌, unsigned_abs, FitsSigned, Option, Some, None, if◌then◌else◌}
-use Rattle.std.proofs.lemmas.Bool.{cases_lt}
+use Rattle.std.proofs.Common.{arith, refl, sym, ap, subst, ◌≡◌, ℕ, ◌+◌, ◌*◌, ◌^◌, ◌<◌, ◌≤◌, nat_lt, Bool, true, false, length, ℤ, pos, ◌+ℤ◌, unsigned_abs, FitsSigned, Option, Some, None, if◌then◌else◌}
 use Rattle.std.proofs.lemmas.Int.{ints}
-use Rattle.std.proofs.lemmas.List.FromFn.{map-range_with_len_more}
 use Rattle.std.specs.Int.{w128}
-use Rattle.std.specs.List.{range_with_len}
 use Rattle.std.specs.Option.{option_map}
 use Rattle.base_words.specs.Sums.{number_at}
 use Rattle.base_words.proofs.Magnitudes.{abs-add, fits_from_abs}
-use Rattle.boxed_problem.specs.Optimum.{best_of, Feasible}
+use Rattle.boxed_problem.specs.Optimum.{best_of}
 use Rattle.boxed_problem.specs.declared.parts.Best.{Best}
 use Rattle.boxed_problem.proofs.Optimal.{best_is}
 use Rattle.run_calls.specs.MultiplierTests.{AreSized, most_at}
 use Rattle.run_calls.proofs.MostBounds.{most_small}
-use Rattle.put_words.specs.Searches.{HavePoints, IsFirstWithout}
-use Rattle.put_words.proofs.Inside.{run_filled}
+use Rattle.sp_model.specs.ScenarioPoints.{HasPoint, HavePoints, IsFirstInfeasible}
 use Rattle.put_words.proofs.Spans.{below_from_test, line_small}
 use Rattle.sp_model.specs.Plans.{multiplier_of}
 use Rattle.sp_model.specs.Problems.{least_of, problem_in, scenarios}
 use Rattle.sp_model.specs.declared.plan.Multipliers.{Multipliers}
 use Rattle.sp_model.specs.declared.run.Run.{Run}
+use Rattle.sp_model.proofs.ScenarioPoints.{run_filled}
 use Rattle.dual_value.specs.Duals.{DualFails, IsSpent, LeastFails, priced_at, priced_in}
 use Rattle.dual_value.specs.declared.summing.DualFault.{DualFault}
 use Rattle.dual_value.specs.declared.summing.DualFault.TheVariants.{NoPoint, Spent, Memory}
-
--- one more item of a list made by number
-pub map_next : (f : ℕ → ℤ) (n : ℕ) (old new : List ℤ) (x : ℤ) → new ≡ old ++ x ∷ [] → x ≡ f n → old ≡ map f (range_with_len 0 n) → new ≡ map f (range_with_len 0 (n + 1))
-map_next f n old new x pushed is made = pushed ∙ (ap (λ y. old ++ y ∷ []) is ∙ (ap (λ l. l ++ f n ∷ []) made ∙ sym (map-range_with_len_more f 0 n n (omega arith))))
 
 price_small : (run : Run) (multipliers : Multipliers) (s j : ℕ) → AreSized run multipliers → s < scenarios run → unsigned_abs (multiplier_of run multipliers s j) ≤ 2 ^ 120
 price_small run multipliers s j sized l = by_test (nat_lt j run.nonleaf) refl
@@ -46,10 +39,6 @@ priced_fits run multipliers s j sized l h =
     let price = multiplier_of run multipliers s j in
     fits_from_abs (cost +ℤ price) (omega (arith, abs-add cost price, line_small run s j l h, price_small run multipliers s j sized l))
 
--- a scenario has a feasible point
-abbrev pub HasPoint : Run → ℕ → Type 0
-HasPoint run s = (x : List ℤ) × Feasible (problem_in run s) x
-
 -- a scenario with a least value has one, whatever the prices
 pub point_of : (run : Run) (multipliers : Multipliers) (s : ℕ) (value : ℤ) → least_of (priced_in run multipliers s) ≡ Some value → HasPoint run s
 point_of run multipliers s value has = by_best (best_of (priced_in run multipliers s)) refl has
@@ -60,18 +49,10 @@ point_of run multipliers s value has = by_best (best_of (priced_in run multiplie
         let is = best_is (priced_in run multipliers s) (Some best) (run_filled run) (sym e) in
         (best.point, record { inside = is.feasible.inside; rows = is.feasible.rows })
 
--- each scenario before the next one has a point
-pub points_more : (run : Run) (s : ℕ) → HavePoints run s → HasPoint run s → HavePoints run (s + 1)
-points_more run s before has t l = by_place (cases_lt t s)
-  where
-    by_place : (t < s) ⊎ (s ≤ t) → HasPoint run t
-    by_place (inl less) = before t less
-    by_place (inr more) = let same : s ≡ t = omega arith in subst (HasPoint run) same has
-
 -- a scenario that isn't solved ends the sum
 pub ended_at : (run : Run) (multipliers : Multipliers) (budget s : ℕ) (fault : DualFault) → s < scenarios run → HavePoints run s → LeastFails run multipliers budget s fault → DualFails run multipliers budget fault
 ended_at run multipliers budget s (NoPoint scenario) there before (same, none) =
-    subst (IsFirstWithout run) (sym same) (record { there = there; none = none; before = before })
+    subst (IsFirstInfeasible run) (sym same) (record { there = there; none = none; before = before })
 ended_at run multipliers budget s (Spent scenario opened) there before (same, all, more) =
     subst (λ t. IsSpent run multipliers budget t opened) (sym same) (record { there = there; before = before; opened_is = all; more = more })
 ended_at run multipliers budget s Memory there before free = tt

@@ -5,7 +5,7 @@ use Rattle.base_words.specs.Sums.{number_at}
 use Rattle.boxed_problem.specs.Data.{Problem}
 use Rattle.boxed_problem.specs.Optimum.{Feasible}
 use Rattle.branch_bound.specs.PlainSearch.{ref_count}
-use Rattle.put_words.specs.Searches.{HavePoints, IsFirstWithout}
+use Rattle.sp_model.specs.ScenarioPoints.{HavePoints, IsFirstInfeasible}
 use Rattle.sp_model.specs.Plans.{multiplier_of, with_prices}
 use Rattle.sp_model.specs.Problems.{problem_in, scenarios}
 use Rattle.sp_model.specs.declared.plan.Multipliers.{Multipliers}
@@ -30,7 +30,7 @@ pub record IsSpent (run : Run) (multipliers : Multipliers) (budget s opened : �
 
 -- why there is no dual value
 abbrev pub DualFails : Run → Multipliers → ℕ → DualFault → Type 0
-DualFails run multipliers budget (fault.NoPoint s) = IsFirstWithout run s
+DualFails run multipliers budget (fault.NoPoint s) = IsFirstInfeasible run s
 DualFails run multipliers budget (fault.Spent s opened) = IsSpent run multipliers budget s opened
 DualFails run multipliers budget fault.Memory = Unit {0}
 

@@ -1,1 +1,9 @@
 pub mod Duals
+pub use Rattle.base_words.specs.Sums
+pub use Rattle.boxed_problem.specs.Data
+pub use Rattle.boxed_problem.specs.Optimum
+pub use Rattle.branch_bound.specs.PlainSearch
+pub use Rattle.run_calls.specs.MultiplierTests
+pub use Rattle.sp_model.specs.Plans
+pub use Rattle.sp_model.specs.Problems
+pub use Rattle.sp_model.specs.ScenarioPoints

@@ -19,7 +19,7 @@ use Rattle.join_frame.specs.Naming.{IsRowNamed}
 use Rattle.join_words.specs.Boxes.{is_idle}
 use Rattle.join_words.specs.Parts.{no_row}
 use Rattle.join_words.specs.Powers.{is_entry_in, is_live_in, own_numbers}
-use Rattle.join_frame.proofs.Made.{changed, is_made, made_at, same_made}
+use Rattle.base_words.proofs.Made.{changed, is_made, made_at, same_made}
 
 common_from : (xs : List Decimal) (a : ℕ) (d : Decimal) → fold (λ most (item : Decimal). max most item.places) a (xs ++ d ∷ []) ≡ max (fold (λ most (item : Decimal). max most item.places) a xs) d.places
 common_from [] a d = refl

@@ -1,3 +1,2 @@
 pub mod Commons
 pub mod Framed
-pub mod Made

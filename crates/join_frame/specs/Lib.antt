@@ -1,3 +1,10 @@
 pub mod Naming
 pub mod LiveRows
 pub mod Sourcing
+pub use Rattle.dec_core.specs.Scale
+pub use Rattle.join_words.specs.Boxes
+pub use Rattle.join_words.specs.Framing
+pub use Rattle.join_words.specs.Parts
+pub use Rattle.join_words.specs.Powers
+pub use Rattle.smps_stoch.specs.StochFacts
+pub use Rattle.smps_words.specs.CoreFacts

@@ -3,7 +3,7 @@ use Rattle.std.proofs.Common.{arith, refl, sym, ap, subst, ◌∙◌, ◌≡◌,
 use Rattle.std.specs.List.{Any, cons_option, filter, filter_map, range_with_len}
 use Rattle.std.proofs.lemmas.List.{get_or-map, length-map, map-append, take_more}
 use Rattle.std.proofs.lemmas.List.Elements.{filter-append, filter_map-append}
-use Rattle.std.proofs.lemmas.List.FromFn.{get_or-map-range_with_len, length-map-range_with_len, map-range_with_len_more}
+use Rattle.std.proofs.lemmas.List.FromFn.{get_or-map-range_with_len, length-map-range_with_len}
 use Rattle.boxed_problem.specs.declared.parts.Entry.{Entry}
 use Rattle.smps_words.specs.declared.core_data.CoreEntry.{CoreEntry}
 use Rattle.sp_model.specs.declared.program.Change.{Change}
@@ -20,10 +20,7 @@ pub by_unfit : (P Q : Type 0) (fault : MakeFault) → (P → Q) → ByUnfit P fa
 by_unfit P Q Unfit f h = f h
 by_unfit P Q Memory f h = h
 
--- one more item of a list made by number, and of one made of another
-pub map_next : {X : Type 0} (f : ℕ → X) (n : ℕ) (old new : List X) (x : X) → new ≡ old ++ x ∷ [] → x ≡ f n → old ≡ map f (range_with_len 0 n) → new ≡ map f (range_with_len 0 (n + 1))
-map_next f n old new x pushed is made = pushed ∙ (ap (λ y. old ++ y ∷ []) is ∙ (ap (λ l. l ++ f n ∷ []) made ∙ sym (map-range_with_len_more f 0 n n (omega arith))))
-
+-- one more item of a list made of another
 pub list_next : {X Y : Type 0} (f : X → Y) (xs : List X) (k : ℕ) (old new : List Y) (x : X) (y : Y) → k < length xs → x ≡ get_or xs k x → new ≡ old ++ y ∷ [] → y ≡ f x → old ≡ map f (take k xs) → new ≡ map f (take (k + 1) xs)
 list_next f xs k old new x y lt at pushed is made =
     pushed ∙ (ap (λ z. old ++ z ∷ []) is ∙ (ap (λ l. l ++ f x ∷ []) made ∙ (sym (map-append f (take k xs) (x ∷ [])) ∙ (ap (λ z. map f (take k xs ++ z ∷ [])) at ∙ ap (map f) (sym (take_more xs k x lt))))))

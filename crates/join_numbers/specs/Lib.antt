@@ -3,3 +3,11 @@ pub mod Unfit
 pub mod Limiting
 pub mod Turning
 pub mod Changing
+pub use Rattle.boxed_problem.specs.Facts
+pub use Rattle.dec_core.specs.Scale
+pub use Rattle.join_words.specs.Limits
+pub use Rattle.join_words.specs.Parts
+pub use Rattle.join_words.specs.Powers
+pub use Rattle.join_words.specs.RunOf
+pub use Rattle.smps_stoch.specs.StochFacts
+pub use Rattle.sp_model.specs.Changes

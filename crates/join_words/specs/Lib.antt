@@ -5,3 +5,11 @@ pub mod Limits
 pub mod Parts
 pub mod Powers
 pub mod RunOf
+pub use Rattle.base_words.specs.ListSums
+pub use Rattle.boxed_problem.specs.Sides
+pub use Rattle.dec_core.specs.Scale
+pub use Rattle.scenario_lists.specs.ScenarioList
+pub use Rattle.smps_words.specs.CoreFacts
+pub use Rattle.smps_words.specs.Stages
+pub use Rattle.sp_model.specs.Reaching
+pub use Rattle.tree_core.specs.Marks

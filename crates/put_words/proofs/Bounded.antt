@@ -19,13 +19,13 @@ use Rattle.sp_model.specs.Problems.{data_at, factor_of, least_of, problem_in, sc
 use Rattle.sp_model.specs.Reaching.{box_reach, hedge_reach}
 use Rattle.sp_model.specs.declared.plan.Multipliers.{Multipliers}
 use Rattle.sp_model.specs.declared.run.Run.{Run}
+use Rattle.sp_model.proofs.ScenarioPoints.{run_filled}
 use Rattle.sp_model.proofs.Bounds.{factor_abs, reach_parts}
 use Rattle.sp_model.proofs.DataFacts.{boxed_is}
 use Rattle.run_calls.proofs.MostBounds.{hedge_within}
 use Rattle.sp_model.proofs.Sizes.{size_below-mono, size_below-times, zeros_at}
 use Rattle.put_words.specs.Objectives.{with_line}
 use Rattle.put_words.specs.NodeSums.{weight_at}
-use Rattle.put_words.proofs.Inside.{run_filled}
 use Rattle.put_words.proofs.Spans.{cost_span, least_abs, line_part, line_parts_le, priced_span}
 use Rattle.put_words.proofs.Weights.{size_at, total_abs_is}
 

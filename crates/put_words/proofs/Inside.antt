@@ -2,7 +2,7 @@
 
 use Rattle.std.proofs.Common.{arith, refl, sym, ap, subst, ◌∙◌, ◌≡◌, ℕ, zero, suc, ◌+◌, ◌*◌, ◌<◌, ◌≤◌, List, [], length, get_or, ℤ, pos, ◌≤ℤ◌, Option, Some, None}
 use Rattle.std.proofs.lemmas.List.{get_or_default, length-map, length-replicate}
-use Rattle.std.proofs.lemmas.List.Elements.{All-map, recursion_from_All}
+use Rattle.std.proofs.lemmas.List.Elements.{recursion_from_All}
 use Rattle.std.specs.List.{AllByRecursion}
 use Rattle.std.specs.Option.{option_and_then, option_map}
 use Rattle.base_words.specs.Sums.{number_at}
@@ -10,13 +10,13 @@ use Rattle.boxed_problem.specs.Data.{Problem}
 use Rattle.boxed_problem.specs.Optimum.{IsFirstLeast}
 use Rattle.boxed_problem.specs.Points.{InBox}
 use Rattle.boxed_problem.specs.Sides.{Filled, side_at}
-use Rattle.boxed_problem.specs.declared.parts.Side.{Side}
 use Rattle.boxed_problem.proofs.Optimal.{best_is}
 use Rattle.sp_model.specs.Changes.{side_of, sides}
 use Rattle.run_calls.specs.MultiplierTests.{AreLong}
 use Rattle.sp_model.specs.Problems.{problem_in, scenarios}
 use Rattle.sp_model.specs.declared.plan.Multipliers.{Multipliers}
 use Rattle.sp_model.specs.declared.run.Run.{Run}
+use Rattle.sp_model.proofs.ScenarioPoints.{run_filled}
 use Rattle.run_calls.proofs.MostBounds.{early_column}
 use Rattle.put_words.specs.Hedged.{hedged_in}
 use Rattle.put_words.specs.NextMultipliers.{moved, next_of, no_multipliers}
@@ -27,10 +27,6 @@ use Rattle.put_words.proofs.Points.{AreBests, bests_are, firsts_at, firsts_lengt
 
 same_some : {X : Type 0} {a b : X} → Some a ≡ Some b → a ≡ b
 same_some e = cc
-
--- no box of a run is empty
-pub run_filled : (run : Run) → Filled (sides run.program)
-run_filled run = recursion_from_All (λ (s : Side). s.lower ≤ℤ s.upper) (sides run.program) (All-map (λ (s : Side). s.lower ≤ℤ s.upper) side_of run.program.columns (λ k d l. (run.facts.stages.columns k d l).filled))
 
 -- problems over the boxes of a run
 abbrev pub OverBoxes : Run → (ℕ → Problem) → Type 0

@@ -19,7 +19,7 @@ use Rattle.sp_model.proofs.SumSome.{sum_some-none}
 use Rattle.put_words.specs.Hedged.{hedged_in}
 use Rattle.put_words.specs.NextMultipliers.{no_multipliers}
 use Rattle.put_words.specs.Puts.{bests_below, Made, made_from, put_of}
-use Rattle.put_words.specs.Searches.{HavePoints}
+use Rattle.sp_model.specs.ScenarioPoints.{HavePoints}
 use Rattle.put_words.proofs.Inside.{run_filled}
 use Rattle.put_words.proofs.Moves.{nothing_at}
 use Rattle.put_words.proofs.Points.{bests_are}

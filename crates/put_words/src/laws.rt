@@ -2,7 +2,7 @@ ghost use Rattle.std.specs.Prelude.{◌≡◌, ◌+◌, ◌≤◌, ℕ, List, �
 ghost use Rattle.put_words.specs.NextMultipliers.{next_of, no_multipliers, rounded_down};
 ghost use Rattle.put_words.specs.NodeSums.{AreInside};
 ghost use Rattle.put_words.specs.Puts.{Made, put_of};
-ghost use Rattle.put_words.specs.Searches.{HavePoints};
+ghost use Rattle.sp_model.specs.ScenarioPoints.{HavePoints};
 ghost use Rattle.run_calls.specs.MultiplierTests.{AreLong, AreSized};
 ghost use Rattle.sp_model.specs.Plans.{AreBalanced, IsOptimum, dual_of};
 ghost use Rattle.sp_model.specs.Problems.{scenarios, wait_and_see_of};

@@ -7,7 +7,7 @@ use Rattle.sp_model.specs.Changes.{Data, all_data}
 use Rattle.sp_model.specs.Reaching.{box_reach, cost_reach, greatest}
 use Rattle.sp_model.specs.declared.program.Program.{Program}
 use Rattle.reach_core.specs.Greatest.{cost_size, tops_of}
-use Rattle.reach_core.proofs.Made.{made_at}
+use Rattle.base_words.proofs.Made.{made_at}
 
 pub tops_long : (p : Program) (ds : List Data) → length (tops_of (length p.columns) ds) ≡ length p.columns
 tops_long p ds = length-map-range_with_len (λ j. greatest (map (cost_size j) ds)) 0 (length p.columns)

@@ -19,7 +19,7 @@ use Rattle.sp_model.specs.declared.program.Scenario.{Scenario}
 use Rattle.sp_model.proofs.Lengths.{costs_kept, limits_kept}
 use Rattle.reach_core.specs.Greatest.{cost_size, sums_of, tops_of, with_part}
 use Rattle.reach_core.proofs.Capped.{product_by, sum_capped}
-use Rattle.reach_core.proofs.Made.{changed, is_made, made_at}
+use Rattle.base_words.proofs.Made.{changed, is_made, made_at}
 
 -- lengths
 pub data_costs : (p : Program) (s : Scenario) → length (data_of p s).costs ≡ length p.columns

@@ -1,7 +1,6 @@
 pub mod Balance
 pub mod Capped
 pub mod Finding
-pub mod Made
 pub mod ScenarioSums
 pub mod Within
 pub mod Costs

@@ -31,7 +31,7 @@ use Rattle.reach_core.proofs.Balance.{AreApart, apart_from, balance, given, take
 use Rattle.reach_core.proofs.Capped.{greatest_more, greatest_push}
 use Rattle.reach_core.proofs.Costs.{tops_long}
 use Rattle.reach_core.proofs.Data.{data_limits, row_capped, sums_long, tops_first}
-use Rattle.reach_core.proofs.Made.{is_made, made_at}
+use Rattle.base_words.proofs.Made.{is_made, made_at}
 use Rattle.reach_core.proofs.Within.{sum_le}
 
 -- changes of n rows and m columns

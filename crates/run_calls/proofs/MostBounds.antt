@@ -1,11 +1,10 @@
 -- How great multipliers and their steps become at most, from the reach of a run.
 
-use Rattle.std.proofs.Common.{arith, refl, sym, ap, ◌∙◌, ◌≡◌, ℕ, zero, suc, ◌+◌, ◌*◌, ◌^◌, ◌<◌, ◌≤◌, max, nat_le, nat_lt, Bool, true, false, map, length, get_or, ℤ, pos, negsuc, neg_ℤ, ◌≤ℤ◌, unsigned_abs}
+use Rattle.std.proofs.Common.{arith, refl, sym, ap, ◌∙◌, ◌≡◌, ℕ, zero, suc, ◌+◌, ◌*◌, ◌^◌, ◌<◌, ◌≤◌, max, nat_le, nat_lt, Bool, true, false, length, get_or, ℤ, pos, negsuc, neg_ℤ, ◌≤ℤ◌, unsigned_abs}
 use Rattle.std.proofs.lemmas.Int.{ints}
 use Rattle.std.proofs.lemmas.List.{get_or-map}
 use Rattle.std.proofs.lemmas.List.Sums.{count_by-le-length}
 use Rattle.std.proofs.Math.Nat.{mul-le-mul}
-use Rattle.std.specs.List.{range_with_len}
 use Rattle.base_words.proofs.SumBounds.{size_below-part}
 use Rattle.boxed_problem.specs.Sides.{no_side, reach}
 use Rattle.sp_model.specs.Changes.{side_of}
@@ -16,7 +15,7 @@ use Rattle.sp_model.specs.Reaching.{box_reach, greatest, hedge_part, hedge_reach
 use Rattle.sp_model.specs.declared.program.Column.{Column}
 use Rattle.sp_model.specs.declared.program.Program.{Program}
 use Rattle.sp_model.specs.declared.run.Run.{Run}
-use Rattle.sp_model.proofs.Bounds.{reach_parts}
+use Rattle.sp_model.proofs.Bounds.{total_abs}
 
 -- a nonleaf column is a column
 pub early_column : (run : Run) (j : ℕ) → j < run.nonleaf → j < length run.program.columns
@@ -49,39 +48,6 @@ rho_small (negsuc a) h k = absurd (omega (arith, ints))
 
 pub rho_abs : (run : Run) → unsigned_abs run.options.rho ≤ 1000000000
 rho_abs run = rho_small run.options.rho run.facts.options_fit.some_rho run.facts.options_fit.rho
-
-rho_some : (a : ℤ) → pos 1 ≤ℤ a → 1 ≤ unsigned_abs a
-rho_some (pos a) h = omega (arith, ints)
-rho_some (negsuc a) h = absurd (omega (arith, ints))
-
-square_le : (r w m : ℕ) → 1 ≤ r → 1 ≤ m → 2 * (w * w) ≤ 2 * r * (w * w) * m
-square_le r w m h k =
-    let two : 2 ≤ 2 * r = omega arith in
-    let same : w * w ≤ w * w = omega arith in
-    let first = mul-le-mul two same in
-    let whole : 2 * r * (w * w) ≤ 2 * r * (w * w) = omega arith in
-    let second = mul-le-mul whole k in
-    omega (arith, first, second)
-
-root_le : (w n : ℕ) → 2 * (w * w) ≤ n → n ≤ 2 ^ 120 → w < 2 ^ 60
-root_le w n h k = by_test (nat_le (2 ^ 60) w) refl
-  where
-    by_test : (t : Bool) → nat_le (2 ^ 60) w ≡ t → w < 2 ^ 60
-    by_test true e =
-        let large : 2 ^ 60 ≤ w = grind arith in
-        let squares = mul-le-mul large large in
-        absurd (omega (arith, squares))
-    by_test false e = grind arith
-
--- the total weight
-pub total_abs : (run : Run) → unsigned_abs run.total < 2 ^ 60
-total_abs run =
-    let most = greatest (map (box_reach run.program) (range_with_len 0 run.nonleaf)) in
-    let w = unsigned_abs run.total in
-    let r = unsigned_abs run.options.rho in
-    let one : 1 ≤ max 1 most = omega arith in
-    let raw = (reach_parts run).1 in
-    root_le w (2 * r * (w * w) * max 1 most) (square_le r w (max 1 most) (rho_some run.options.rho run.facts.options_fit.some_rho) one) raw
 
 -- twice the penalty times the total weight
 pub rate_small : (run : Run) → 2 * unsigned_abs run.options.rho * unsigned_abs run.total ≤ 2 ^ 91

@@ -1,1 +1,10 @@
 pub mod MultiplierTests
+pub use Rattle.base_words.specs.FirstAnswers
+pub use Rattle.base_words.specs.ListSums
+pub use Rattle.base_words.specs.Sums
+pub use Rattle.boxed_problem.specs.Sides
+pub use Rattle.sp_model.specs.Changes
+pub use Rattle.sp_model.specs.Plans
+pub use Rattle.sp_model.specs.Problems
+pub use Rattle.sp_model.specs.Reaching
+pub use Rattle.tree_core.specs.Nodes

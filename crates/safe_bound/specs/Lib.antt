@@ -4,3 +4,13 @@ pub mod PriceWeights
 pub mod Reducing
 pub mod ReducedOf
 pub mod Runs
+pub use Rattle.base_words.specs.Sums
+pub use Rattle.boxed_problem.specs.Data
+pub use Rattle.boxed_problem.specs.Facts
+pub use Rattle.boxed_problem.specs.Objective
+pub use Rattle.boxed_problem.specs.Optimum
+pub use Rattle.boxed_problem.specs.Points
+pub use Rattle.boxed_problem.specs.PriceFit
+pub use Rattle.boxed_problem.specs.Rows
+pub use Rattle.boxed_problem.specs.Sides
+pub use Rattle.wide_num.specs.Quotients

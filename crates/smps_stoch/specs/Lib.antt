@@ -4,8 +4,13 @@ pub mod SaidFacts
 pub mod StochData
 pub mod StochFacts
 pub mod StochMeaning
+pub use Rattle.dec_core.specs.DecimalValue
 pub use Rattle.dec_core.specs.Scale
+pub use Rattle.smps_words.specs.CoreFacts
+pub use Rattle.smps_words.specs.Memory
+pub use Rattle.smps_words.specs.TextLines
 pub use Rattle.stoch_lines.specs.Before
 pub use Rattle.stoch_lines.specs.Faults
 pub use Rattle.stoch_lines.specs.Places
 pub use Rattle.stoch_lines.specs.StochOutcome
+pub use Rattle.stoch_lines.specs.Turns

@@ -47,7 +47,8 @@ abs_le (pos a) (pos b) h k = omega (arith, ints)
 abs_le (pos a) (negsuc b) h k = absurd (omega (arith, ints))
 abs_le (negsuc a) b h k = absurd (omega (arith, ints))
 
-abs_some : (a : ℤ) → pos 1 ≤ℤ a → 1 ≤ unsigned_abs a
+-- a number of at least 1 has a magnitude of at least 1
+pub abs_some : (a : ℤ) → pos 1 ≤ℤ a → 1 ≤ unsigned_abs a
 abs_some (pos a) h = omega (arith, ints)
 abs_some (negsuc a) h = absurd (omega (arith, ints))
 
@@ -85,7 +86,8 @@ root_le w n h k = by_test (nat_le (2 ^ 60) w) refl
         absurd (omega (arith, squares))
     by_test false e = grind arith
 
-total_abs : (run : Run) → unsigned_abs run.total < 2 ^ 60
+-- the total weight
+pub total_abs : (run : Run) → unsigned_abs run.total < 2 ^ 60
 total_abs run =
     let most = greatest (map (box_reach run.program) (range_with_len 0 run.nonleaf)) in
     let w = unsigned_abs run.total in

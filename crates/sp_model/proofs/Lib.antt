@@ -9,3 +9,4 @@ pub mod Bounds
 pub mod DataFacts
 pub mod Lengths
 pub mod PlaceValues
+pub mod ScenarioPoints

@@ -1,6 +1,6 @@
--- Sums that may be none: a bound term by term is a bound of the sum.
+-- Sums that may be none: a bound term by term is a bound of the sum; one term more.
 
-use Rattle.std.proofs.Common.{arith, refl, ◌≡◌, ℕ, zero, suc, ◌<◌, ℤ, ◌+ℤ◌, ◌≤ℤ◌, Option, Some, None}
+use Rattle.std.proofs.Common.{arith, refl, ap, add-one, ◌∙◌, ◌≡◌, ℕ, zero, suc, ◌+◌, ◌<◌, ℤ, ◌+ℤ◌, ◌≤ℤ◌, Option, Some, None}
 use Rattle.std.proofs.lemmas.Int.{ints}
 use Rattle.std.specs.Option.{option_and_then, option_map}
 use Rattle.base_words.specs.Sums.{sum_below}
@@ -32,3 +32,9 @@ sum_some-none (suc n) f e = by_front (sum_some n f) refl (f n) refl e (λ p. sum
     by_front None p t q d r = let found = r p in (found.0, omega (arith, found.1), found.2)
     by_front (Some sum) p None q d r = (n, omega arith, q)
     by_front (Some sum) p (Some least) q d r = absurd (let x = d in cc)
+
+-- one term more in the sum
+pub sum_more : (f : ℕ → Option ℤ) (s : ℕ) (before least : ℤ) → sum_some s f ≡ Some before → f s ≡ Some least → sum_some (s + 1) f ≡ Some (before +ℤ least)
+sum_more f s before least sum has =
+    ap (λ n. sum_some n f) (add-one s)
+    ∙ (ap (option_and_then (λ (so_far : ℤ). option_map (λ next. so_far +ℤ next) (f s))) sum ∙ ap (option_map (λ next. before +ℤ next)) has)

@@ -5,3 +5,11 @@ pub mod Plans
 pub mod Problems
 pub mod Reaching
 pub mod Values
+pub mod ScenarioPoints
+pub use Rattle.base_words.specs.ListSums
+pub use Rattle.base_words.specs.Sums
+pub use Rattle.boxed_problem.specs.Data
+pub use Rattle.boxed_problem.specs.Objective
+pub use Rattle.boxed_problem.specs.Optimum
+pub use Rattle.boxed_problem.specs.Sides
+pub use Rattle.tree_core.specs.Nodes

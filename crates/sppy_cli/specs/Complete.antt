@@ -6,11 +6,12 @@ use Rattle.run_words.specs.Words.{Request}
 use Rattle.run_words.specs.declared.command.Action.{Action}
 use Rattle.run_words.specs.declared.command.Action.TheVariants.{Wait}
 use Rattle.sp_model.specs.declared.run.Run.{Run}
+use Rattle.sp_model.specs.ScenarioPoints.{IsFirstInfeasible}
 use Rattle.sppy_cli.specs.Causes.{IsCause, IsInstanceOf}
 use Rattle.sppy_cli.specs.declared.instance.Instance.{Instance}
 use Rattle.sppy_cli.specs.declared.status.Status.{Status}
 use Rattle.sppy_cli.specs.declared.status.Status.TheVariants as status
-use Rattle.wait_and_see.specs.WaitAnswers.{AllHavePoints, IsFirstInfeasible, IsSpent}
+use Rattle.wait_and_see.specs.WaitAnswers.{AllHavePoints, IsSpent}
 
 -- a count of faults doesn't rise
 abbrev pub IsCalm : ℕ → ℕ → Type 0

@@ -6,13 +6,14 @@ use Rattle.join_words.specs.Framing.{frame_of, joined}
 use Rattle.run_words.specs.declared.command.Action.{Action}
 use Rattle.run_words.specs.declared.command.Action.TheVariants.{Wait, Show}
 use Rattle.sp_model.specs.Problems.{wait_and_see_of}
+use Rattle.sp_model.specs.ScenarioPoints.{IsFirstInfeasible}
 use Rattle.sppy_cli.specs.declared.instance.Instance.{Instance}
 use Rattle.sppy_cli.specs.declared.status.Status.{Status}
 use Rattle.sppy_cli.specs.declared.status.Status.TheVariants as status
 use Rattle.text_lines.specs.BoundLines.{IsBoundText}
 use Rattle.text_lines.specs.Headings.{heading_of, unit_of}
 use Rattle.text_lines.specs.ShowLines.{show_lines_of}
-use Rattle.wait_and_see.specs.WaitAnswers.{IsFirstInfeasible, IsSpent}
+use Rattle.wait_and_see.specs.WaitAnswers.{IsSpent}
 
 -- the text of the heading
 abbrev pub heading_text : Instance → List ℕ

@@ -6,8 +6,10 @@ pub mod Sayings
 pub mod StochOutcome
 pub mod Turns
 pub use Rattle.dec_core.specs.DecimalValue
+pub use Rattle.line_core.specs.Lines
 pub use Rattle.smps_words.specs.CoreFacts
 pub use Rattle.smps_words.specs.Memory
+pub use Rattle.smps_words.specs.NumberFields
 pub use Rattle.smps_words.specs.Outcomes
 pub use Rattle.smps_words.specs.PeriodFacts
 pub use Rattle.smps_words.specs.Stages

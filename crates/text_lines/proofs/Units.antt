@@ -1,5 +1,5 @@
 -- Why the unit of a run fits, and is above 0.
-use Rattle.std.proofs.Common.{arith, ◌≡◌, ℕ, ◌*◌, ◌^◌, ◌<◌, ◌≤◌, max, nat_le, Bool, true, false, ◌||◌, List, [], ◌∷◌, length, map, ℤ, pos, negsuc, ◌*ℤ◌, ◌≤ℤ◌, ◌<ℤ◌, unsigned_abs, FitsSigned, refl, lit≤}
+use Rattle.std.proofs.Common.{arith, ◌≡◌, ℕ, ◌*◌, ◌^◌, ◌<◌, ◌≤◌, Bool, true, false, ◌||◌, List, [], ◌∷◌, length, ℤ, pos, negsuc, ◌*ℤ◌, ◌≤ℤ◌, ◌<ℤ◌, unsigned_abs, FitsSigned, refl, lit≤}
 use Rattle.std.proofs.lemmas.Bool.Decides.{Decides-int_eq}
 use Rattle.std.proofs.lemmas.Int.{ints, unsigned_abs-mul}
 use Rattle.std.proofs.lemmas.List.Elements.{recursion_from_All}
@@ -10,47 +10,15 @@ use Rattle.std.specs.Ordering.{int_eq}
 use Rattle.base_words.specs.ListSums.{sum_z}
 use Rattle.base_words.proofs.ListSums.{sum_z-cons}
 use Rattle.base_words.proofs.Magnitudes.{fits_from_abs}
-use Rattle.sp_model.specs.Reaching.{box_reach, greatest}
 use Rattle.sp_model.specs.declared.program.Scenario.{Scenario}
 use Rattle.sp_model.specs.declared.run.Run.{Run}
-use Rattle.sp_model.proofs.Bounds.{reach_parts}
+use Rattle.sp_model.proofs.Bounds.{total_abs}
 use Rattle.text_lines.specs.Headings.{unit_of}
 
 -- a number between 1 and another has that one's magnitude at most
 between : (z : ℤ) (n : ℕ) → pos 1 ≤ℤ z → z ≤ℤ pos n → (1 ≤ unsigned_abs z) × (unsigned_abs z ≤ n)
 between (pos a) n h k = (omega (arith, ints), omega (arith, ints))
 between (negsuc a) n h k = absurd (omega (arith, ints))
-
-some_size : (z : ℤ) → pos 1 ≤ℤ z → 1 ≤ unsigned_abs z
-some_size (pos a) h = omega (arith, ints)
-some_size (negsuc a) h = absurd (omega (arith, ints))
-
-square_le : (r w m : ℕ) → 1 ≤ r → 1 ≤ m → 2 * (w * w) ≤ 2 * r * (w * w) * m
-square_le r w m h k =
-    let two : 2 ≤ 2 * r = omega arith in
-    let same : w * w ≤ w * w = omega arith in
-    let first = mul-le-mul two same in
-    let whole : 2 * r * (w * w) ≤ 2 * r * (w * w) = omega arith in
-    let second = mul-le-mul whole k in
-    omega (arith, first, second)
-
-root_le : (w n : ℕ) → 2 * (w * w) ≤ n → n ≤ 2 ^ 120 → w < 2 ^ 60
-root_le w n h k = by_test (nat_le (2 ^ 60) w) refl
-  where
-    by_test : (t : Bool) → nat_le (2 ^ 60) w ≡ t → w < 2 ^ 60
-    by_test true e =
-        let large : 2 ^ 60 ≤ w = grind arith in
-        let squares = mul-le-mul large large in
-        absurd (omega (arith, squares))
-    by_test false e = grind arith
-
-total_small : (run : Run) → unsigned_abs run.total < 2 ^ 60
-total_small run =
-    let most = greatest (map (box_reach run.program) (range_with_len 0 run.nonleaf)) in
-    let w = unsigned_abs run.total in
-    let r = unsigned_abs run.options.rho in
-    let one : 1 ≤ max 1 most = omega arith in
-    root_le w (2 * r * (w * w) * max 1 most) (square_le r w (max 1 most) (some_size run.options.rho run.facts.options_fit.some_rho) one) (reach_parts run).1
 
 -- the total weight is at least 1
 sum_from : (ss : List Scenario) → AllByRecursion (λ (s : Scenario). pos 1 ≤ℤ s.weight) ss → pos (length ss) ≤ℤ sum_z (λ (s : Scenario). s.weight) ss
@@ -115,7 +83,7 @@ pub unit_facts : (run : Run) → UnitFacts run
 unit_facts run =
     let fit = run.facts.options_fit in
     let scale = between run.options.scale 1000000 fit.some_scale fit.scale in
-    let total = total_small run in
+    let total = total_abs run in
     let total_le : unsigned_abs run.total ≤ 2 ^ 60 = omega arith in
     let power = cost_scale_within run in
     let cost = between run.program.cost_scale (10 ^ 9) power.0 power.1 in

@@ -3,3 +3,9 @@ pub mod Headings
 pub mod BoundLines
 pub mod RowLimits
 pub mod ShowLines
+pub use Rattle.sp_model.specs.Changes
+pub use Rattle.sp_model.specs.Plans
+pub use Rattle.sp_model.specs.Problems
+pub use Rattle.tree_core.specs.Nodes
+pub use Rattle.wide_num.specs.FractionText
+pub use Rattle.wide_num.specs.LowestTerms

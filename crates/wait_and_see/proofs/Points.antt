@@ -1,26 +1,19 @@
 -- Which scenarios have feasible points, by their least values.
-use Rattle.std.proofs.Common.{arith, ap, ◌∙◌, add-one, ◌≡◌, ◌≤ℤ◌, ℕ, zero, suc, ◌+◌, ◌<◌, ◌≤◌, ◌⊎◌, inl, inr, ℤ, ◌+ℤ◌, Option, Some, None, Err, unsigned_abs, ◌*◌, refl, sym, subst}
+use Rattle.std.proofs.Common.{arith, ap, ◌≡◌, ℕ, zero, suc, ◌+◌, ◌<◌, ◌≤◌, ◌⊎◌, inl, inr, List, ℤ, ◌+ℤ◌, Option, Some, None, Err, unsigned_abs, ◌*◌, refl, sym, subst}
 use Rattle.std.proofs.lemmas.Bool.{cases_lt}
-use Rattle.std.proofs.lemmas.List.Elements.{All-map, recursion_from_All}
 use Rattle.std.specs.Option.{option_and_then, option_map}
-use Rattle.boxed_problem.specs.Optimum.{best_of}
-use Rattle.boxed_problem.specs.Sides.{Filled}
+use Rattle.boxed_problem.specs.Optimum.{best_of, Feasible}
 use Rattle.boxed_problem.specs.declared.parts.Best.{Best}
-use Rattle.boxed_problem.specs.declared.parts.Side.{Side}
 use Rattle.boxed_problem.proofs.Optimal.{best_is}
-use Rattle.sp_model.specs.Changes.{side_of, sides}
 use Rattle.sp_model.specs.Problems.{least_of, problem_in, scenario_at, scenarios, sum_some, wait_and_see_of}
+use Rattle.sp_model.specs.ScenarioPoints.{HasPoint, HavePoints, IsFirstInfeasible}
 use Rattle.sp_model.specs.declared.run.Run.{Run}
+use Rattle.sp_model.proofs.ScenarioPoints.{run_filled}
 use Rattle.wait_and_see.specs.Solving.{SolvesIn}
-use Rattle.wait_and_see.specs.WaitAnswers.{AllHavePoints, HasPoint, IsFirstInfeasible, IsSpent, WaitAnswers}
+use Rattle.wait_and_see.specs.WaitAnswers.{AllHavePoints, IsSpent, WaitAnswers}
 use Rattle.wait_and_see.specs.declared.fault.WaitFault.{WaitFault}
 use Rattle.wait_and_see.specs.declared.fault.WaitFault.TheVariants.{Infeasible, Spent, Memory}
 use Rattle.wait_and_see.proofs.Weighing.{cost_size, least_le, weight_size}
-
--- no side of a run is empty
-filled : (run : Run) → Filled (sides run.program)
-filled run =
-    recursion_from_All (λ (s : Side). s.lower ≤ℤ s.upper) (sides run.program) (All-map (λ (s : Side). s.lower ≤ℤ s.upper) side_of run.program.columns (λ k d l. (run.facts.stages.columns k d l).filled))
 
 -- the least value of scenario t
 abbrev pub least_in : Run → ℕ → Option ℤ
@@ -32,7 +25,7 @@ point_of run s value has = by_best (best_of (problem_in run s)) refl has
   where
     by_best : (o : Option Best) → best_of (problem_in run s) ≡ o → option_map (λ (best : Best). best.value) o ≡ Some value → HasPoint run s
     by_best None e h = absurd (let x = h in cc)
-    by_best (Some best) e h = let is = best_is (problem_in run s) (Some best) (filled run) (sym e) in (best.point, is.feasible)
+    by_best (Some best) e h = let is = best_is (problem_in run s) (Some best) (run_filled run) (sym e) in (best.point, is.feasible)
 
 -- and its least value is at most its weight times the magnitude of the costs
 pub least_bounded : (run : Run) (s : ℕ) (value : ℤ) → s < scenarios run → least_in run s ≡ Some value → unsigned_abs value ≤ weight_size (scenario_at run s) * cost_size run
@@ -42,29 +35,15 @@ least_bounded run s value there has = by_best (best_of (problem_in run s)) refl 
     by_best None e h = absurd (let x = h in cc)
     by_best (Some best) e h =
         let same : best.value ≡ value = let x = h in cc in
-        omega (arith, ap unsigned_abs same, least_le run s best there (best_is (problem_in run s) (Some best) (filled run) (sym e)))
+        omega (arith, ap unsigned_abs same, least_le run s best there (best_is (problem_in run s) (Some best) (run_filled run) (sym e)))
 
 -- a scenario without a least value has none
-pub no_point : (run : Run) (s : ℕ) → least_in run s ≡ None → HasPoint run s → ⊥
-no_point run s none (x, feasible) = by_best (best_of (problem_in run s)) refl none
+pub no_point : (run : Run) (s : ℕ) → least_in run s ≡ None → (x : List ℤ) → Feasible (problem_in run s) x → ⊥
+no_point run s none x feasible = by_best (best_of (problem_in run s)) refl none
   where
     by_best : (o : Option Best) → best_of (problem_in run s) ≡ o → option_map (λ (best : Best). best.value) o ≡ None → ⊥
     by_best (Some best) e h = let x = h in cc
-    by_best None e h = best_is (problem_in run s) None (filled run) (sym e) x feasible
-
--- each scenario before the next one has a point
-pub points_more : (run : Run) (s : ℕ) → ((t : ℕ) → t < s → HasPoint run t) → HasPoint run s → (t : ℕ) → t < s + 1 → HasPoint run t
-points_more run s before has t l = by_place (cases_lt t s)
-  where
-    by_place : (t < s) ⊎ (s ≤ t) → HasPoint run t
-    by_place (inl less) = before t less
-    by_place (inr more) = let same : s ≡ t = omega arith in subst (HasPoint run) same has
-
--- one scenario more in the sum
-pub sum_more : (f : ℕ → Option ℤ) (s : ℕ) (before least : ℤ) → sum_some s f ≡ Some before → f s ≡ Some least → sum_some (s + 1) f ≡ Some (before +ℤ least)
-sum_more f s before least sum has =
-    ap (λ n. sum_some n f) (add-one s)
-    ∙ (ap (option_and_then (λ (so_far : ℤ). option_map (λ next. so_far +ℤ next) (f s))) sum ∙ ap (option_map (λ next. before +ℤ next)) has)
+    by_best None e h = best_is (problem_in run s) None (run_filled run) (sym e) x feasible
 
 -- where there is a sum of least values, each scenario of it has a point
 summed_have_points : (run : Run) (n : ℕ) (sum : ℤ) → sum_some n (least_in run) ≡ Some sum → (s : ℕ) → s < n → HasPoint run s
@@ -87,7 +66,7 @@ unfolding wait_and_see_of
 bounded_have_points run bound e s l = summed_have_points run (scenarios run) bound e s l
 
 -- a scenario that isn't solved ends the sum
-pub ended_at : (run : Run) (s : ℕ) (fault : WaitFault) → s < scenarios run → ((t : ℕ) → t < s → HasPoint run t) → SolvesIn run s (Err fault) → WaitAnswers run (Err fault)
+pub ended_at : (run : Run) (s : ℕ) (fault : WaitFault) → s < scenarios run → HavePoints run s → SolvesIn run s (Err fault) → WaitAnswers run (Err fault)
 ended_at run s (Infeasible scenario) there before (same, none) =
     subst (IsFirstInfeasible run) (sym same) (record { there = there; none = no_point run s none; before = before })
 ended_at run s (Spent scenario opened) there before (same, all, more) =

@@ -1,32 +1,22 @@
 -- What the sum of the least values answers.
-use Rattle.std.specs.Prelude.{◌≡◌, ℕ, ℤ, ◌<◌, List, Some, Result, Ok, Err}
-use Rattle.boxed_problem.specs.Optimum.{Feasible}
+use Rattle.std.specs.Prelude.{◌≡◌, ℕ, ℤ, ◌<◌, Some, Result, Ok, Err}
 use Rattle.branch_bound.specs.PlainSearch.{ref_count}
 use Rattle.sp_model.specs.Problems.{problem_in, scenarios, wait_and_see_of}
+use Rattle.sp_model.specs.ScenarioPoints.{HavePoints, IsFirstInfeasible}
 use Rattle.sp_model.specs.declared.run.Run.{Run}
 use Rattle.wait_and_see.specs.declared.fault.WaitFault.{WaitFault}
 use Rattle.wait_and_see.specs.declared.fault.WaitFault.TheVariants.{Infeasible, Spent, Memory}
 
--- a scenario has a feasible point
-abbrev pub HasPoint : Run → ℕ → Type 0
-HasPoint run s = (x : List ℤ) × Feasible (problem_in run s) x
-
 -- each scenario of a run has a feasible point
 abbrev pub AllHavePoints : Run → Type 0
-AllHavePoints run = (s : ℕ) → s < scenarios run → HasPoint run s
-
--- scenario s is the first one without a feasible point
-pub record IsFirstInfeasible (run : Run) (s : ℕ) : Type 0 where
-  pub there : s < scenarios run
-  pub none : HasPoint run s → ⊥
-  pub before : (t : ℕ) → t < s → HasPoint run t
+AllHavePoints run = HavePoints run (scenarios run)
 
 -- the budget of boxes was used up in scenario s, which the plain search can't solve within it either, and each earlier one has a feasible point
 pub record IsSpent (run : Run) (s opened : ℕ) : Type 0 where
   pub there : s < scenarios run
   pub all : opened ≡ run.options.budget
   pub more : run.options.budget < ref_count (problem_in run s)
-  pub before : (t : ℕ) → t < s → HasPoint run t
+  pub before : HavePoints run s
 
 -- the answer is the wait-and-see bound, or the first scenario without a feasible point, or one that used up its budget; want of memory is free
 abbrev pub WaitAnswers : Run → Result ℤ WaitFault → Type 0

@@ -2,7 +2,7 @@ use Rattle.std.proofs.Common.{rules, ◌≡◌, [], ◌∷◌, ◌++◌, FitsSig
 use Rattle.std.proofs.lemmas.Int.{to_z-of_z}
 use Rattle.std.specs.Int.{w128}
 use Rattle.dual_value.specs.Duals.{priced_at}
-use Rattle.dual_value.proofs.PricedSums.{map_next}
+use Rattle.base_words.proofs.Made.{map_next}
 use Rattle.dual_value.proofs.pricing.priced_costs.Goals as goal
 
 pub loop-column-preserved : goal.loop-column-preserved

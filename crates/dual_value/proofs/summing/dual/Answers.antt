@@ -6,7 +6,8 @@ use Rattle.sp_model.specs.Plans.{dual_of}
 use Rattle.sp_model.specs.Problems.{least_of, scenarios, sum_some}
 use Rattle.put_words.proofs.Bounded.{dual_small, sum_next}
 use Rattle.dual_value.specs.Duals.{priced_in}
-use Rattle.dual_value.proofs.PricedSums.{ended_at, point_of, points_more}
+use Rattle.sp_model.proofs.ScenarioPoints.{points_more}
+use Rattle.dual_value.proofs.PricedSums.{ended_at, point_of}
 use Rattle.dual_value.proofs.summing.dual.Goals as goal
 
 pub returns-in-Err-clause-err : goal.returns-in-Err-clause-err

@@ -1,6 +1,6 @@
 use Rattle.std.proofs.Common.{◌≡◌, Some}
 use Rattle.sp_model.specs.Problems.{least_of, sum_some}
-use Rattle.put_words.specs.Searches.{HavePoints}
+use Rattle.sp_model.specs.ScenarioPoints.{HavePoints}
 use Rattle.dual_value.specs.Duals.{priced_in}
 use Rattle.dual_value.proofs.summing.dual.Given as goal
 

@@ -1,5 +1,5 @@
 use Rattle.std.proofs.Common.{refl}
-use Rattle.reach_core.proofs.Made.{map_next}
+use Rattle.base_words.proofs.Made.{map_next}
 use Rattle.reach_core.proofs.rows.zeros.Goals as goal
 
 pub loop-i-preserved : goal.loop-i-preserved

@@ -3,7 +3,9 @@ use Rattle.std.proofs.lemmas.Int.{to_z-of_z}
 use Rattle.std.specs.Int.{w128}
 use Rattle.base_words.proofs.Magnitudes.{fits_from_abs}
 use Rattle.sp_model.specs.Problems.{scenarios, sum_some, wait_and_see_of}
-use Rattle.wait_and_see.proofs.Points.{ended_at, least_bounded, least_in, point_of, points_more, sum_more}
+use Rattle.sp_model.proofs.ScenarioPoints.{points_more}
+use Rattle.sp_model.proofs.SumSome.{sum_more}
+use Rattle.wait_and_see.proofs.Points.{ended_at, least_bounded, least_in, point_of}
 use Rattle.wait_and_see.proofs.Weighing.{sum_le, sum_step}
 use Rattle.wait_and_see.proofs.summing.wait_and_see.Goals as goal
 

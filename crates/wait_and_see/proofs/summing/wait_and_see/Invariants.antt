@@ -1,6 +1,6 @@
-use Rattle.std.proofs.Common.{◌≡◌, ℕ, ◌*◌, ◌<◌, ◌≤◌, Some, unsigned_abs}
+use Rattle.std.proofs.Common.{◌≡◌, ◌*◌, ◌≤◌, Some, unsigned_abs}
 use Rattle.sp_model.specs.Problems.{sum_some}
-use Rattle.wait_and_see.specs.WaitAnswers.{HasPoint}
+use Rattle.sp_model.specs.ScenarioPoints.{HavePoints}
 use Rattle.wait_and_see.proofs.Points.{least_in}
 use Rattle.wait_and_see.proofs.Weighing.{cost_size, weights_before}
 use Rattle.wait_and_see.proofs.summing.wait_and_see.Given as goal
@@ -9,5 +9,5 @@ abbrev pub invariant-loop-s : goal.invariant-loop-s
 invariant-loop-s l = record {
   sum : sum_some l.s (least_in l.run) ≡ Some l.bound;
   small : unsigned_abs l.bound ≤ weights_before l.run l.s * cost_size l.run;
-  before : (t : ℕ) → t < l.s → HasPoint l.run t;
+  before : HavePoints l.run l.s;
 }
