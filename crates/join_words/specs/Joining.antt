@@ -7,7 +7,7 @@ use Rattle.sp_model.specs.declared.program.Options.{Options}
 use Rattle.sp_model.specs.declared.run.Run.{Run}
 use Rattle.join_words.specs.Parts.{IsFirstEarly}
 use Rattle.join_words.specs.Framing.{Source, joined}
-use Rattle.join_words.specs.RunOf.{is_crowded, is_vast, is_wide, nonleaf_of, options_of, program_of, told_reach, total_of}
+use Rattle.join_words.specs.RunOf.{has_many_listed, is_crowded, is_vast, is_wide, nonleaf_of, options_of, program_of, told_reach, total_of}
 use Rattle.join_words.specs.declared.fault.JoinFault.{JoinFault}
 use Rattle.join_words.specs.declared.fault.JoinFault.TheVariants.{Anticipates, TooManyScenarios, TooManyCells, Wide, Memory}
 
@@ -30,13 +30,13 @@ pub record IsJoined (source : Source) (options : Options) (run : Run) : Type 0 w
   pub total : run.total ≡ total_of source
   pub nonleaf : run.nonleaf ≡ nonleaf_of source
 
--- a refusal has its own cause, and none of those before it; want of memory may come at any time
+-- a refusal has its own cause, and none of those before it; memory is asked for only behind the causes that can be told without a list
 abbrev pub IsRefused : Source → Options → JoinFault → Type 0
 IsRefused source options (Anticipates line) = IsFirstEarly source.firsts source.parts.entries (Some line)
 IsRefused source options TooManyScenarios = IsTimely source × (is_crowded source ≡ true)
 IsRefused source options TooManyCells = IsTimely source × (is_crowded source ≡ false) × (is_vast source ≡ true)
 IsRefused source options (Wide reach) = IsTimely source × (is_crowded source ≡ false) × (is_vast source ≡ false) × (is_wide source options ≡ true) × (reach ≡ told_reach source options)
-IsRefused source options Memory = Unit {0}
+IsRefused source options Memory = IsTimely source × (is_crowded source ≡ false) × (has_many_listed source ≡ false)
 
 -- what the join answers
 abbrev pub Joins : Result Run JoinFault → Source → Options → Type 0

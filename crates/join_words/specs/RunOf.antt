@@ -163,13 +163,17 @@ is_crowded source = nat_lt MAX_SCENARIOS (count_of source.stoch)
 abbrev pub has_many_cells : ℕ → ℕ → ℕ → ℕ → Bool
 has_many_cells count columns rows nonleaf = nat_lt MAX_CELLS (count * columns) || nat_lt MAX_CELLS (count * rows) || nat_lt MAX_NONLEAF_CELLS (count * nonleaf)
 
+-- whether the scenarios of this source have
+abbrev pub has_many_listed : Source → Bool
+has_many_listed source = has_many_cells (count_of source.stoch) (length source.parts.columns) (length source.parts.rows) (nonleaf_of source)
+
 -- whether all scenarios together have too many changes
 abbrev pub has_many_changes : Source → Bool
 has_many_changes source = nat_lt MAX_CELLS (sum_by (λ (s : Scenario). length s.changes) (run_scenarios source))
 
 -- whether there are too many cells
 abbrev pub is_vast : Source → Bool
-is_vast source = has_many_cells (count_of source.stoch) (length source.parts.columns) (length source.parts.rows) (nonleaf_of source) || has_many_changes source
+is_vast source = has_many_listed source || has_many_changes source
 
 -- whether the reach is too great
 abbrev pub is_wide : Source → Options → Bool

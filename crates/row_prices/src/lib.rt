@@ -7,7 +7,5 @@ mod climbing;
 mod fitting;
 mod improving;
 mod parts;
-#[cfg(test)]
-mod tests;
 
 pub use improving::improve;

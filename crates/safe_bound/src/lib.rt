@@ -8,8 +8,6 @@ mod law;
 mod least_values;
 mod reduced;
 mod reducing;
-#[cfg(test)]
-mod tests;
 
 pub use bounding::{bound, price_total};
 pub use law::price_bound;

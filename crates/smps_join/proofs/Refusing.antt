@@ -34,8 +34,8 @@ use Rattle.join_words.specs.Boxes.{is_idle}
 use Rattle.join_words.specs.Framing.{Source, frame_of}
 use Rattle.join_words.specs.Joining.{IsRefused, IsTimely, source_of}
 use Rattle.join_words.specs.Parts.{Parts, firsts_of, parts_of}
-use Rattle.join_words.specs.RunOf.{change_at, change_of, column_of, has_many_cells, has_many_changes, is_crowded, is_vast, is_wide, nonleaf_of, options_of, program_of, reach_of, scaled_cost, scaled_in, scenario_of, total_of}
-use Rattle.join_words.specs.declared.fault.JoinFault.TheVariants.{Wide}
+use Rattle.join_words.specs.RunOf.{change_at, change_of, column_of, has_many_cells, has_many_changes, has_many_listed, is_crowded, is_vast, is_wide, nonleaf_of, options_of, program_of, reach_of, scaled_cost, scaled_in, scenario_of, total_of}
+use Rattle.join_words.specs.declared.fault.JoinFault.TheVariants.{Memory, Wide}
 use Rattle.join_words.specs.declared.frame.Frame.{Frame}
 use Rattle.smps_join.specs.Cutting.{cut_options}
 use Rattle.smps_join.specs.Counting.{change_count, changes_count, is_live, live_of}
@@ -101,6 +101,10 @@ or_right_true : (a b : Bool) → b ≡ true → (a || b) ≡ true
 or_right_true true b h = refl
 or_right_true false b h = h
 
+or_left_false : (a b : Bool) → (a || b) ≡ false → a ≡ false
+or_left_false true b h = h
+or_left_false false b h = refl
+
 -- more scenarios than there may be
 pub crowded : (n : ℕ) → (n ≤ 4096 → ⊥) → nat_lt 4096 n ≡ true
 crowded n h = by_test (nat_lt 4096 n) refl h
@@ -123,6 +127,13 @@ module _ (core : Core) (periods : Periods) (stoch : Stoch) (options : Options) w
 
   pub large_total : CanJoin core periods stoch options → 2 ^ 127 ≤ weight_sum (scenarios_of stoch) → 2 ^ 127 ≤ reach_of source options
   large_total can large = omega (arith, large, ap unsigned_abs (total_is core periods stoch options), total_within (program_of source) (options_of source options) (total_of source) (nonleaf_of source) (has_reach core periods stoch options can))
+
+  -- memory is asked for where neither an entry is early nor there are too many scenarios or cells
+  pub few_listed : is_vast source ≡ false → has_many_listed source ≡ false
+  few_listed few = or_left_false (has_many_listed source) (has_many_changes source) few
+
+  pub memory_refused : IsTimely source → is_crowded source ≡ false → is_vast source ≡ false → IsRefused source options Memory
+  memory_refused timely few cells = (timely, few, few_listed cells)
 
   -- a reach of 2^127 or more is refused by that number
   pub wide_refused : IsTimely source → is_crowded source ≡ false → is_vast source ≡ false → 2 ^ 127 ≤ reach_of source options → IsRefused source options (Wide (2 ^ 127))

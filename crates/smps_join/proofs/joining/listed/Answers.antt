@@ -13,6 +13,21 @@ use Rattle.smps_join.proofs.joining.listed.Goals as goal
 pub frame-requires-clause-named : goal.frame-requires-clause-named
 frame-requires-clause-named c = all_named c.args.core.now c.args.periods.now c.args.stoch.now c.args.options.now c.requires.can
 
+pub returns-in_default : goal.returns-in_default
+returns-in_default c =
+    let core = c.args.core.now in
+    (c.requires.timely, c.requires.few, sym (cells_many core c.args.periods.now c.args.stoch.now c.args.options.now c.args.count (length core.columns) (length core.rows) c.args.nonleaf c.requires.count refl refl c.requires.nonleaf) ∙ c.requires.cells)
+
+pub returns-in_default-live_columns : goal.returns-in_default-live_columns
+returns-in_default-live_columns c =
+    let core = c.args.core.now in
+    (c.requires.timely, c.requires.few, sym (cells_many core c.args.periods.now c.args.stoch.now c.args.options.now c.args.count (length core.columns) (length core.rows) c.args.nonleaf c.requires.count refl refl c.requires.nonleaf) ∙ c.requires.cells)
+
+pub returns-in-Err-Memory : goal.returns-in-Err-Memory
+returns-in-Err-Memory c =
+    let core = c.args.core.now in
+    (c.requires.timely, c.requires.few, sym (cells_many core c.args.periods.now c.args.stoch.now c.args.options.now c.args.count (length core.columns) (length core.rows) c.args.nonleaf c.requires.count refl refl c.requires.nonleaf) ∙ c.requires.cells)
+
 pub returns-in-Err-TooManyEntries : goal.returns-in-Err-TooManyEntries
 returns-in-Err-TooManyEntries c =
     let fm : FitsSigned w64 c.args.options.now.missing = search rules in

@@ -12,7 +12,7 @@ use Rattle.join_words.specs.Joining.{source_of}
 use Rattle.join_words.specs.RunOf.{options_of, total_of}
 use Rattle.smps_join.specs.Cutting.{cut_options}
 use Rattle.smps_join.proofs.EntriesKept.{entries_ascend}
-use Rattle.smps_join.proofs.Refusing.{nonleaf_there, not_wide, options_cut, reach_kept, reach_refused, reach_same, run_same}
+use Rattle.smps_join.proofs.Refusing.{memory_refused, nonleaf_there, not_wide, options_cut, reach_kept, reach_refused, reach_same, run_same}
 use Rattle.smps_join.proofs.RunIs.{has_reach, program_is, run_is}
 use Rattle.smps_join.proofs.joining.reached.Goals as goal
 
@@ -31,6 +31,9 @@ run_reach-requires-clause-scenarios c =
 
 pub run_reach-requires-clause-nonleaf : goal.run_reach-requires-clause-nonleaf
 run_reach-requires-clause-nonleaf c = nonleaf_there c.args.core.now c.args.periods.now c.args.stoch.now c.args.options.now c.args.program c.args.nonleaf c.requires.program c.requires.nonleaf
+
+pub returns-in_default : goal.returns-in_default
+returns-in_default c = memory_refused c.args.core.now c.args.periods.now c.args.stoch.now c.args.options.now c.requires.timely c.requires.few c.requires.cells
 
 pub returns-then-reach-gt-MAX_REACH : goal.returns-then-reach-gt-MAX_REACH
 returns-then-reach-gt-MAX_REACH c =

@@ -16,7 +16,7 @@ use Rattle.smps_join.specs.Unfit.{HasUnfit, program_with}
 use Rattle.smps_join.specs.Weights.{weight_sum}
 use Rattle.smps_join.proofs.FrameIs.{frame_facts}
 use Rattle.smps_join.proofs.Living.{all_live, long_live, program_live, weights_live}
-use Rattle.smps_join.proofs.Refusing.{large_reach, large_total, wide_refused}
+use Rattle.smps_join.proofs.Refusing.{large_reach, large_total, memory_refused, wide_refused}
 use Rattle.smps_join.proofs.RunIs.{at_most, listed_is, program_is, total_is}
 use Rattle.smps_join.proofs.joining.weighed.Goals as goal
 
@@ -67,3 +67,6 @@ returns-in-Err-Unfit c =
     let unfit : P listed = subst (λ (f : MakeFault). ByUnfit (P listed) f) c.in-Err-Unfit.field-0-is c.in-Err-Unfit.ensures.err in
     let same = ap (program_with core periods stoch c.args.frame.now) c.requires.listed ∙ program_live core periods stoch c.args.frame.now (scenarios_of stoch) ∙ ap (λ (f : Frame). program_with core periods stoch f (scenarios_of stoch)) c.requires.frame in
     wide_refused core periods stoch c.args.options.now c.requires.timely c.requires.few c.requires.cells (large_reach core periods stoch c.args.options.now c.requires.can (subst P same unfit))
+
+pub returns-in-Err-Memory : goal.returns-in-Err-Memory
+returns-in-Err-Memory c = memory_refused c.args.core.now c.args.periods.now c.args.stoch.now c.args.options.now c.requires.timely c.requires.few c.requires.cells
