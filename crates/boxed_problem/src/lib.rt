@@ -13,8 +13,6 @@ mod parts;
 mod price_fit;
 mod problem;
 mod scanning;
-#[cfg(test)]
-mod tests;
 
 pub use feasibility::{is_at_least, is_at_most, is_met, product, row_activity};
 pub use objective::column_value;

@@ -15,8 +15,6 @@ mod rows;
 mod settling;
 mod spans;
 mod sparse;
-#[cfg(test)]
-mod tests;
 mod tightening;
 mod trail;
 mod undoing;

@@ -14,13 +14,13 @@ use Rattle.sp_model.specs.Problems.{least_of, problem_in, scenarios, sum_some, w
 use Rattle.sp_model.specs.declared.plan.Multipliers.{Multipliers}
 use Rattle.sp_model.specs.declared.plan.Plan.{Plan}
 use Rattle.sp_model.specs.declared.run.Run.{Run}
+use Rattle.sp_model.proofs.ScenarioPoints.{run_filled}
 use Rattle.sp_model.proofs.Duality.{none_feasible}
 use Rattle.sp_model.proofs.SumSome.{sum_some-none}
 use Rattle.put_words.specs.Hedged.{hedged_in}
 use Rattle.put_words.specs.NextMultipliers.{no_multipliers}
 use Rattle.put_words.specs.Puts.{bests_below, Made, made_from, put_of}
 use Rattle.sp_model.specs.ScenarioPoints.{HavePoints}
-use Rattle.put_words.proofs.Inside.{run_filled}
 use Rattle.put_words.proofs.Moves.{nothing_at}
 use Rattle.put_words.proofs.Points.{bests_are}
 use Rattle.put_words.proofs.Spans.{costs_long}

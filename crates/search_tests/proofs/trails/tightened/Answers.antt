@@ -2,7 +2,7 @@ use Rattle.std.proofs.Common.{◌∙◌, sym, subst, ◌≡◌}
 use Rattle.boxed_problem.specs.Sides.{Within}
 use Rattle.boxed_problem.proofs.Lying.{within_self}
 use Rattle.boxed_problem.proofs.Optimal.{filled_of}
-use Rattle.propagate.proofs.tests.tightened.Goals as goal
+use Rattle.search_tests.proofs.trails.tightened.Goals as goal
 
 pub tighten-answer-requires : goal.tighten-answer-requires
 tighten-answer-requires c =

@@ -2,7 +2,7 @@ use Rattle.std.proofs.Common.{arith, ℕ, ◌<◌, length, ◌≤ℤ◌}
 use Rattle.std.proofs.lemmas.List.Elements.{All-from_get_or, recursion_from_All}
 use Rattle.boxed_problem.specs.Sides.{no_side, side_at}
 use Rattle.boxed_problem.specs.declared.parts.Side.{Side}
-use Rattle.price_tests.proofs.problems.lie_within.Goals as goal
+use Rattle.search_tests.proofs.problems.lie_within.Goals as goal
 
 pub returns : goal.returns
 returns c = λ t.

@@ -1,7 +1,8 @@
 ghost use Rattle.std.specs.Prelude.{◌≡◌};
 
-use crate::{Empty, Sparse, Trail, TrailFault, sparse_of, tighten, tighten_on, trail_of};
-use boxed_problem::{Boxed, Entry, Limits, Side};
+use crate::problems::{Row, problem};
+use boxed_problem::{Boxed, Side};
+use propagate::{Empty, Sparse, Trail, TrailFault, sparse_of, tighten, tighten_on, trail_of};
 use std::alloc::{AllocError, Global};
 use std::process::Abort;
 use std::test::Fail;
@@ -12,34 +13,14 @@ type Ends = (i64, i64);
 
 /// The problem of two columns with these ends and no objective, and one row
 /// with these entries and limits.
-fn problem(
+fn one_row(
     alloc: Global,
     columns: [Ends; 2],
     entries: [i128; 2],
-    limits: (Option<i128>, Option<i128>),
+    limits: Row,
 ) -> Result<Option<Boxed>, AllocError> {
-    let mut sides = List::new(alloc);
-    let mut line = List::new(alloc);
-    let mut square = List::new(alloc);
-    for (lower, upper) in columns {
-        sides.push(Side { lower, upper })?;
-        line.push(0)?;
-        square.push(0)?;
-    }
-    let mut cells = List::new(alloc);
-    let mut column = 0u32;
-    for value in entries {
-        cells.push(Entry {
-            row: 0,
-            column,
-            value,
-        })?;
-        column = column.wrapping_add(1);
-    }
-    let (lower, upper) = limits;
-    let mut rows = List::new(alloc);
-    rows.push(Limits { lower, upper })?;
-    Ok(Boxed::new(sides, rows, cells, 0, line, square))
+    let cells = [(0, 0, entries[0]), (0, 1, entries[1])];
+    problem(alloc, &columns, &[limits], &cells, 0, &[(0, 0), (0, 0)])
 }
 
 /// Narrows a column to these ends.
@@ -88,7 +69,7 @@ fn ends(rt: &impl Abort, sides: &List<Side>, column: usize) -> Ends {
 
 #[test]
 fn gives_back_sides_and_ranges(rt: HostRuntime) -> Result<(), Fail> {
-    let found = problem(rt.alloc(), [(0, 10), (0, 10)], [1, 1], (Some(6), None))?;
+    let found = one_row(rt.alloc(), [(0, 10), (0, 10)], [1, 1], (Some(6), None))?;
     let need = found.expect(&rt, "a problem");
     let sparse = sparse_of(rt.alloc(), &need)?;
     let mut trail = trail_of(rt.alloc(), &need, &sparse)?;
@@ -170,7 +151,7 @@ fn tightens_by_both_limits(rt: HostRuntime) -> Result<(), Fail> {
         ),
     ];
     for (columns, entries, limits, some, first, second) in cases {
-        let found = problem(rt.alloc(), columns, entries, limits)?;
+        let found = one_row(rt.alloc(), columns, entries, limits)?;
         let row = found.expect(&rt, "a problem");
         let (on_list, sides) = tightened(rt.alloc(), &row)?;
         let (on_trail, trail) = tightened_on(rt.alloc(), &row)?;

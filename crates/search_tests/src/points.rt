@@ -1,58 +1,12 @@
-use crate::{Boxed, Entry, Limits, Prices, Side, scan};
+use crate::problems::{prices, problem};
+use boxed_problem::{Boxed, scan};
 use std::alloc::{AllocError, Global};
 use std::process::Abort;
 use std::test::Fail;
 use wide_num::List;
 
-/// A row's limits.
-type Row = (Option<i128>, Option<i128>);
-
-/// The problem of plain arrays: the ends of the columns, the limits of the
-/// rows, entries as row, column and value, and for each column its linear and
-/// its square part.
-fn problem(
-    alloc: Global,
-    columns: &[(i64, i64)],
-    rows: &[Row],
-    entries: &[(u32, u32, i128)],
-    constant: i128,
-    objective: &[(i128, i128)],
-) -> Result<Option<Boxed>, AllocError> {
-    let mut sides = List::new(alloc);
-    for (lower, upper) in columns {
-        let side = Side {
-            lower: *lower,
-            upper: *upper,
-        };
-        sides.push(side)?;
-    }
-    let mut limits = List::new(alloc);
-    for (lower, upper) in rows {
-        let limit = Limits {
-            lower: *lower,
-            upper: *upper,
-        };
-        limits.push(limit)?;
-    }
-    let mut cells = List::new(alloc);
-    for (row, column, value) in entries {
-        let cell = Entry {
-            row: *row,
-            column: *column,
-            value: *value,
-        };
-        cells.push(cell)?;
-    }
-    let mut line = List::new(alloc);
-    let mut square = List::new(alloc);
-    for (linear, curved) in objective {
-        line.push(*linear)?;
-        square.push(*curved)?;
-    }
-    Ok(Boxed::new(sides, limits, cells, constant, line, square))
-}
-
-fn list(alloc: Global, values: &[i64]) -> Result<List<i64>, AllocError> {
+/// A point.
+fn point_of(alloc: Global, values: &[i64]) -> Result<List<i64>, AllocError> {
     Ok(List::from_vec(Vec::from_slice(alloc, values)?))
 }
 
@@ -126,11 +80,11 @@ fn tests_points(rt: HostRuntime) -> Result<(), Fail> {
         ([7, -1], false),
     ];
     for (values, wanted) in cases {
-        let point = list(rt.alloc(), &values)?;
+        let point = point_of(rt.alloc(), &values)?;
         assert_eq!(rt; problem.feasible(&point), wanted, "at {values:?}");
     }
-    let short = list(rt.alloc(), &[6])?;
-    let long = list(rt.alloc(), &[6, 0, 0])?;
+    let short = point_of(rt.alloc(), &[6])?;
+    let long = point_of(rt.alloc(), &[6, 0, 0])?;
     assert!(rt; !problem.feasible(&short) && !problem.feasible(&long));
     Ok(())
 }
@@ -161,17 +115,10 @@ fn fits_prices(rt: HostRuntime) -> Result<(), Fail> {
         (i128::MIN, 0, false),
     ];
     for (scale, price, wanted) in cases {
-        let values = List::from_vec(Vec::from_slice(rt.alloc(), &[price])?);
-        let prices = Prices { scale, values };
+        let prices = prices(rt.alloc(), scale, &[price])?;
         assert_eq!(rt; problem.fits(&prices), wanted, "at {scale}, {price}");
     }
-    let none = List::new(rt.alloc());
-    assert!(rt;
-        !problem.fits(&Prices {
-            scale: 1,
-            values: none
-        })
-    );
+    assert!(rt; !problem.fits(&prices(rt.alloc(), 1, &[])?));
     Ok(())
 }
 

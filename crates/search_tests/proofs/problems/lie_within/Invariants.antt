@@ -1,6 +1,6 @@
 use Rattle.std.proofs.Common.{ℕ, ◌<◌, ◌≤ℤ◌}
 use Rattle.boxed_problem.specs.Sides.{side_at}
-use Rattle.price_tests.proofs.problems.lie_within.Given as goal
+use Rattle.search_tests.proofs.problems.lie_within.Given as goal
 
 abbrev pub invariant-loop-j : goal.invariant-loop-j
 invariant-loop-j l =
