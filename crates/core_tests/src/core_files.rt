@@ -1,19 +1,11 @@
 use dec_core::Decimal;
+use sample_files::{FARM_CORE, PAIR_CORE, SMALL_CORE};
 use smps_core::{
     Core, CoreFault, CoreKind, boxes_law, cells_law, entries_law, first_fault_law, names_law,
     read_core,
 };
 use std::alloc::{AllocError, Global};
 use std::test::Fail;
-
-const SMALL: &str =
-    "NAME SMALL\nROWS\n N COST\n G NEED\nCOLUMNS\n X COST 1 NEED 1\n Y COST 3 NEED 1\nRHS\n RHS NEED 2\nBOUNDS\n UP BND X 10\n UP BND Y 10\nENDATA\n";
-
-const PAIR: &str =
-    "NAME PAIR\nROWS\n N COST\n G C1\n G C2\nCOLUMNS\n X COST 1 C1 1\n X C2 1\n Y1 COST 3 C1 1\n Y2 COST 3 C2 1\nRHS\n RHS C1 2 C2 1\nBOUNDS\n UP BND X 10\n UP BND Y1 10\n UP BND Y2 10\nENDATA\n";
-
-const FARM: &str =
-    "NAME FARM\nROWS\n N COST\n L LAND\n G WHEAT\n G CORN\n G BEETS\nCOLUMNS\n X1 COST 150 LAND 1\n X1 WHEAT 2.5\n X2 COST 230 LAND 1\n X2 CORN 3\n X3 COST 260 LAND 1\n X3 BEETS 20\n Y1 COST 238 WHEAT 1\n Y2 COST 210 CORN 1\n W1 COST -170 WHEAT -1\n W2 COST -150 CORN -1\n W3 COST -36 BEETS -1\n W4 COST -10 BEETS -1\nRHS\n RHS LAND 500 WHEAT 200\n RHS CORN 240\nBOUNDS\n UP BND W3 6000\nENDATA\n";
 
 const MANY: &str =
     "ROWS\n N COST\n L A\n G B\n E C\n N FREE\nCOLUMNS\n X C 1.5 FREE 9\n X A -2\n M 'MARKER' 'INTORG'\n Y B 4 COST 7\n N 'MARKER' 'INTEND'\n Z COST 1\nBOUNDS\n MI X\n UP X -0.5\n FR Y\n BV OTHER Y\n LO Z 1.5\n LO Z 2\n UP Z 1e30\nRANGES\n R C -3 B 2\n S A 8\n R COST 1\nRHS\n A 5 COST -6\n RHS B 8\nENDATA\n";
@@ -143,19 +135,19 @@ fn cores_have_all_their_data(rt: HostRuntime) -> Result<(), Fail> {
     let small =
         "COST 0/0 RHS\nNEED Greater 2/0;\nX Some(0) Some(10) false 1/0;Y Some(0) Some(10) false 3/0;\n0 0 1/0 6;0 1 1/0 7;";
     assert_eq!(rt;
-        core_text(alloc, SMALL.as_bytes())?.as_slice(),
+        core_text(alloc, SMALL_CORE.as_bytes())?.as_slice(),
         small.as_bytes()
     );
     let pair =
         "COST 0/0 RHS\nC1 Greater 2/0;C2 Greater 1/0;\nX Some(0) Some(10) false 1/0;Y1 Some(0) Some(10) false 3/0;Y2 Some(0) Some(10) false 3/0;\n0 0 1/0 7;1 0 1/0 8;0 1 1/0 9;1 2 1/0 10;";
     assert_eq!(rt;
-        core_text(alloc, PAIR.as_bytes())?.as_slice(),
+        core_text(alloc, PAIR_CORE.as_bytes())?.as_slice(),
         pair.as_bytes()
     );
     let farm =
         "COST 0/0 RHS\nLAND Less 500/0;WHEAT Greater 200/0;CORN Greater 240/0;BEETS Greater 0/0;\nX1 Some(0) None false 150/0;X2 Some(0) None false 230/0;X3 Some(0) None false 260/0;Y1 Some(0) None false 238/0;Y2 Some(0) None false 210/0;W1 Some(0) None false -170/0;W2 Some(0) None false -150/0;W3 Some(0) Some(6000) false -36/0;W4 Some(0) None false -10/0;\n0 0 1/0 9;1 0 25/1 10;0 1 1/0 11;2 1 3/0 12;0 2 1/0 13;3 2 20/0 14;1 3 1/0 15;2 4 1/0 16;1 5 -1/0 17;2 6 -1/0 18;3 7 -1/0 19;3 8 -1/0 20;";
     assert_eq!(rt;
-        core_text(alloc, FARM.as_bytes())?.as_slice(),
+        core_text(alloc, FARM_CORE.as_bytes())?.as_slice(),
         farm.as_bytes()
     );
     let many =
@@ -295,7 +287,7 @@ fn letter_of(alloc: Global, bytes: &[u8]) -> u8 {
 #[test]
 fn cuts_after_each_byte(rt: HostRuntime) -> Result<(), Fail> {
     let alloc = rt.alloc();
-    for (text, want) in [(SMALL, SMALL_CUTS), (FARM, FARM_CUTS)] {
+    for (text, want) in [(SMALL_CORE, SMALL_CUTS), (FARM_CORE, FARM_CUTS)] {
         let bytes = text.as_bytes();
         let mut letters = Vec::new(alloc);
         for k in 0..bytes.len() {

@@ -1,20 +1,11 @@
 use io_edge::{SureShelf, SureSink};
+use sample_files::{SMALL_CORE, SMALL_STOCH, SMALL_TIME};
 use sppy_cli::{InputFault, InputFile, InputKind, Status, desk};
 use std::alloc::{AllocError, Global};
 use std::process::Abort;
 
 /// The core, time and stoch file of the worked example SMALL.
-pub const SMALL: [&str; 3] = [
-    "NAME SMALL\nROWS\n N COST\n G NEED\nCOLUMNS\n X COST 1 NEED 1\n Y COST 3 NEED 1\nRHS\n RHS NEED 2\nBOUNDS\n UP BND X 10\n UP BND Y 10\nENDATA\n",
-    "TIME SMALL\nPERIODS\n X COST T1\n Y NEED T2\nENDATA\n",
-    "STOCH SMALL\nSCENARIOS DISCRETE\n SC LOW ROOT 0.5 T2\n RHS NEED 2\n SC HIGH ROOT 0.5 T2\n RHS NEED 6\nENDATA\n",
-];
-
-/// The core and the time file of the worked example PAIR.
-pub const PAIR_CORE: &str =
-    "NAME PAIR\nROWS\n N COST\n G C1\n G C2\nCOLUMNS\n X COST 1 C1 1\n X C2 1\n Y1 COST 3 C1 1\n Y2 COST 3 C2 1\nRHS\n RHS C1 2 C2 1\nBOUNDS\n UP BND X 10\n UP BND Y1 10\n UP BND Y2 10\nENDATA\n";
-
-pub const PAIR_TIME: &str = "PERIODS\n X COST T1\n Y1 C1 T2\nENDATA\n";
+pub const SMALL: [&str; 3] = [SMALL_CORE, SMALL_TIME, SMALL_STOCH];
 
 /// A stoch file without sections: one scenario with the core's data.
 pub const NO_STOCH: &str = "STOCH\nENDATA\n";

@@ -1,6 +1,5 @@
-use crate::fixtures::{
-    HARD_STOCH, HEADING, NO_STOCH, PAIR_CORE, PAIR_TIME, SMALL, TEXT, WAIT, expect, input, ran,
-};
+use crate::fixtures::{HARD_STOCH, HEADING, NO_STOCH, SMALL, TEXT, WAIT, expect, input, ran};
+use sample_files::{PAIR_CORE, PAIR_TIME};
 use sppy_cli::{CoreKind, InputFile, InputKind, JoinKind, Status};
 use std::test::Fail;
 

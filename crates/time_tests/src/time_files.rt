@@ -1,3 +1,4 @@
+use sample_files::SMALL_TIME;
 use smps_core::{Core, read_core};
 use smps_time::{TimeFault, first_fault_is_first, read_time};
 use smps_words::{stage_in_is_last, stage_is_one};
@@ -158,7 +159,7 @@ fn cuts_tell(
 fn cuts_of_small(rt: HostRuntime) -> Result<(), Fail> {
     let alloc = rt.alloc();
     let core = read_core(alloc, SMALL)?;
-    let text = b"TIME SMALL\nPERIODS\n X COST T1\n Y NEED T2\nENDATA\n".as_slice();
+    let text = SMALL_TIME.as_bytes();
     let rows: [(usize, usize, &[u8]); 11] = [
         (0, 1, b"0 NoEnd"),
         (1, 4, b"1 Section"),
