@@ -1,5 +1,5 @@
 -- The reader's state, seen as what the lines so far have said, and what a step of it answers.
-use Rattle.std.specs.Prelude.{◌≡◌, ℕ, ◌+◌, List, Option, Some, None, Result, MatchResult}
+use Rattle.std.specs.Prelude.{◌≡◌, ℕ, ◌+◌, List, Option, Some, None, IfSome, Result, MatchResult}
 use Rattle.smps_words.specs.NumberFields.{number_in}
 use Rattle.smps_words.specs.TextLines.{TextLine, field}
 use Rattle.core_lines.specs.HeaderParts.{headers_as}
@@ -8,6 +8,7 @@ use Rattle.core_lines.specs.RowLines.{place_of}
 use Rattle.core_lines.specs.declared.cells.Cell.{Cell}
 use Rattle.core_lines.specs.declared.pairs.RowPair.{RowPair}
 use Rattle.core_lines.specs.declared.kinds.CoreKind.{CoreKind}
+use Rattle.core_lines.specs.declared.kinds.CoreKind.TheVariants.{EmptyBox}
 use Rattle.core_lines.specs.declared.kinds.Stop.{Stop}
 use Rattle.core_lines.specs.declared.kinds.Stop.TheVariants.{Fault, Memory}
 use Rattle.core_lines.specs.declared.parts.RowPart.{RowPart}
@@ -39,9 +40,13 @@ with_cells columns cells = record columns { cells = cells }
 abbrev pub before_in : State → Before
 before_in state = record { headers = headers_as state.headers; rows = rows_in state.rows; columns = columns_in state.columns; rights = sides_in_part state.rights; ranges = sides_in_part state.ranges; bounds = bounds_in_part state.bounds }
 
--- want of memory is free, and another stop has the line's fault
+-- a line asks for memory only where it has no fault, or that of an empty box, which isn't found without memory
+abbrev pub MayAsk : Option CoreKind → Type 0
+MayAsk fault = IfSome fault (λ kind. kind ≡ EmptyBox)
+
+-- a stop is the line's fault, or want of memory where the line may ask for it
 abbrev pub Stops : Option CoreKind → Stop → Type 0
-Stops fault Memory = Unit {0}
+Stops fault Memory = MayAsk fault
 Stops fault (Fault kind) = fault ≡ Some kind
 
 -- a line without a fault is taken up, and then this holds

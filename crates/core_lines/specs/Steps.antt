@@ -4,6 +4,7 @@ use Rattle.smps_words.specs.TextLines.{TextLine}
 use Rattle.core_lines.specs.Headers.{is_rights, is_ranges, is_bounds}
 use Rattle.core_lines.specs.Lines.{is_end, line_fault, next}
 use Rattle.core_lines.specs.Parts.{HeadersSaid, Before}
+use Rattle.core_lines.specs.States.{MayAsk}
 use Rattle.core_lines.specs.declared.kinds.CoreFault.{CoreFault}
 use Rattle.core_lines.specs.declared.kinds.CoreFault.TheVariants as faults
 use Rattle.core_lines.specs.declared.kinds.CoreKind.{CoreKind}
@@ -25,9 +26,9 @@ abbrev pub fault_at : ℕ → Stop → CoreFault
 fault_at number (stops.Fault kind) = faults.At number kind
 fault_at number stops.Memory = faults.Memory
 
--- want of memory is free, and another fault is that of the line
+-- a fault is that of the line, or want of memory where the line may ask for it
 abbrev pub Refuses : Option CoreKind → ℕ → CoreFault → Type 0
-Refuses fault number faults.Memory = Unit {0}
+Refuses fault number faults.Memory = MayAsk fault
 Refuses fault number (faults.At line kind) = (line ≡ number) × (fault ≡ Some kind)
 
 -- a line without a fault is taken up, with whether it ends the file

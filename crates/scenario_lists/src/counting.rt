@@ -35,8 +35,9 @@ fn combinations(elements: &List<Element>) -> usize
 #[derive(Clone, Copy, Debug, Drop, PartialEq, Eq)]
 pub struct TooMany;
 
-/// How many scenarios there are: 1 without any element or scenario.
-/// `TooMany` comes exactly above the limit. It takes no memory.
+/// How many scenarios there are: of elements their combinations, 1 where there is
+/// none, and of a list of scenarios its length, 0 where it is empty. `TooMany`
+/// comes exactly above the limit. It takes no memory.
 pub fn scenario_count(stoch: &Stoch) -> Result<usize, TooMany>
     ensures { OkIff result (count_of stoch.now ≤ max_scenarios) (count_of stoch.now) }
 {

@@ -35,9 +35,9 @@ before_in state = record {
   names = state.names;
 }
 
--- an error tells this fault at this line; want of memory may come at any time
+-- an error tells this fault at this line; memory is wanting only for a line without a fault
 abbrev pub Refuses : StochFault → Option StochKind → TextLine → Type 0
-Refuses faults.Memory fault line = Unit {0}
+Refuses faults.Memory fault line = fault ≡ None
 Refuses (faults.At number kind) fault line = (number ≡ line.number) × (fault ≡ Some kind)
 
 -- a step tells the line's fault, and where there is none it makes the state such
