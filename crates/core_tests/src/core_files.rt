@@ -1,7 +1,7 @@
 use dec_core::Decimal;
 use sample_files::{FARM_CORE, PAIR_CORE, SMALL_CORE};
 use smps_core::{
-    Core, CoreFault, CoreKind, boxes_law, cells_law, entries_law, first_fault_law, names_law,
+    Core, CoreFault, CoreKind, box_lines_law, cells_law, entries_law, first_fault_law, names_law,
     read_core,
 };
 use std::alloc::{AllocError, Global};
@@ -130,7 +130,7 @@ fn cores_have_all_their_data(rt: HostRuntime) -> Result<(), Fail> {
     first_fault_law();
     cells_law();
     entries_law();
-    boxes_law();
+    box_lines_law();
     names_law();
     let small =
         "COST 0/0 RHS\nNEED Greater 2/0;\nX Some(0) Some(10) false 1/0;Y Some(0) Some(10) false 3/0;\n0 0 1/0 6;0 1 1/0 7;";

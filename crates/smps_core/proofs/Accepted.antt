@@ -112,7 +112,7 @@ both : (s t : Bool) → (s && t) ≡ true → (s ≡ true) × (t ≡ true)
 both true t is = (refl, is)
 both false t is = cc
 
-fault_there : (b : Before) (line : TextLine) → line.header ≡ true → line_fault b line ≡ None → header_fault b line ≡ None
+pub fault_there : (b : Before) (line : TextLine) → line.header ≡ true → line_fault b line ≡ None → header_fault b line ≡ None
 fault_there b line header none = sym (ap (λ (h : Bool). if h then header_fault b line else data_fault b.headers.section b line) header) ∙ none
 
 filled_next : (b : Before) (line : TextLine) → line_fault b line ≡ None → is_end line ≡ true → has_empty_box (next b line).bounds.bounds (length (next b line).columns.names) ≡ false

@@ -9,24 +9,24 @@ use Rattle.line_core.specs.Names.{number_of}
 use Rattle.smps_words.proofs.PlaceLaw.{says}
 use Rattle.smps_words.proofs.ToldLaws.{told_push}
 use Rattle.smps_words.specs.Outcomes.{Outcome, told}
-use Rattle.smps_words.specs.Outcomes.Outcome.{Faulty, Ended, Endless}
+use Rattle.smps_words.specs.Outcomes.Outcome.{Ended}
 use Rattle.smps_words.specs.Places.{CleanTo, Says}
 use Rattle.smps_words.specs.Tables.{first_true, ◌or◌}
-use Rattle.smps_words.specs.TextLines.{TextLine, field, field_count, no_line}
+use Rattle.smps_words.specs.TextLines.{TextLine, field, no_line}
 use Rattle.smps_words.specs.declared.core_data.RowKind.{RowKind}
 use Rattle.core_lines.specs.ColumnLines.{grown, is_marker, words_in}
 use Rattle.core_lines.specs.Headers.{header_fault, is_columns, is_rows}
-use Rattle.core_lines.specs.Lines.{before_of, column_names_of, data_fault, is_end, is_within, line_fault, rows_of, section_of}
+use Rattle.core_lines.specs.Lines.{before_of, column_names_of, data_fault, is_end, is_within, rows_of, section_of}
 use Rattle.core_lines.specs.Meaning.{fault_behind, outcome_of}
 use Rattle.core_lines.specs.Parts.{RowsSaid}
-use Rattle.core_lines.specs.RowLines.{is_full, is_unknown, names_added, names_in, row_fault, row_named}
+use Rattle.core_lines.specs.RowLines.{is_full, is_unknown, names_added, names_in, row_fault}
 use Rattle.core_lines.specs.Words.{row_kind_named}
 use Rattle.core_lines.specs.declared.kinds.CoreKind.{CoreKind}
 use Rattle.core_lines.specs.declared.kinds.CoreKind.TheVariants as kinds
 use Rattle.core_lines.specs.declared.words.Section.{Section}
 use Rattle.core_lines.specs.declared.words.Section.TheVariants as sections
 use Rattle.smps_core.proofs.Accepted.{by_lines}
-use Rattle.smps_core.proofs.NameOrders.{Asks, are_in_order, at, at_new, at_old, collected}
+use Rattle.smps_core.proofs.NameOrders.{are_in_order, at, at_new, at_old, collected}
 use Rattle.smps_core.specs.NameOrder.{AreInOrder, column_given, is_constraint, row_given}
 
 -- a line's words, as the name that it gives
@@ -53,7 +53,7 @@ pub columns_in_order : (lines : List TextLine) → AreInOrder column_given lines
 columns_in_order lines = subst (λ (names : List (List ℕ)). AreInOrder column_given lines names) (sym (columns_collected lines)) (are_in_order column_given lines)
 
 -- none of the lines has a fault behind those before it
-abbrev AreClean : List TextLine → Type 0
+abbrev pub AreClean : List TextLine → Type 0
 AreClean lines = (n : ℕ) → n < length lines → at fault_behind lines n ≡ None
 
 -- a table of ROWS without a fault: the name is new
@@ -63,7 +63,7 @@ third_off false true old full none = absurd cc
 third_off false false true full none = absurd cc
 third_off false false false full none = refl
 
-not_off : (t : Bool) → not t ≡ false → t ≡ true
+pub not_off : (t : Bool) → not t ≡ false → t ≡ true
 not_off true is = refl
 not_off false is = cc
 
@@ -112,17 +112,21 @@ added_within lines line true is none = added (rows_of lines).names (row_kind_nam
 abbrev row_tells : List TextLine → TextLine → List (List ℕ)
 row_tells before line = if is_within is_rows (section_of before) line then names_in line else []
 
+-- if none has a fault, so none of the lines before the last, and not the last
+pub clean_parts : (lines : List TextLine) (line : TextLine) → AreClean (lines ++ line ∷ []) → AreClean lines × (fault_behind lines line ≡ None)
+clean_parts lines line clean =
+    let long = length_push lines line in
+    (λ n lt. sym (at_old fault_behind lines line n lt) ∙ clean n (omega (arith, lt, long)), sym (at_new fault_behind lines line) ∙ clean (length lines) (omega (arith, long)))
+
 rows_once : (lines : List TextLine) → AreClean lines → (rows_of lines).names ≡ fold grown [] (told row_tells [] lines)
 rows_once lines clean = by_lines (λ xs. AreClean xs → (rows_of xs).names ≡ fold grown [] (told row_tells [] xs)) one [] lines (λ none. refl) clean
   where
     one : (xs : List TextLine) (x : TextLine) → (AreClean xs → (rows_of xs).names ≡ fold grown [] (told row_tells [] xs)) → AreClean (xs ++ x ∷ []) → (rows_of (xs ++ x ∷ [])).names ≡ fold grown [] (told row_tells [] (xs ++ x ∷ []))
     one xs x before clean =
-        let long = length_push xs x in
-        let old : AreClean xs = λ n lt. sym (at_old fault_behind xs x n lt) ∙ clean n (omega (arith, lt, long)) in
-        let last : fault_behind xs x ≡ None = sym (at_new fault_behind xs x) ∙ clean (length xs) (omega (arith, long)) in
+        let parts = clean_parts xs x clean in
         told_push row_tells xs x
-        ∙ added_within xs x (is_within is_rows (section_of xs) x) refl last
-        ∙ ap (λ (names : List (List ℕ)). fold grown names (row_tells xs x)) (before old)
+        ∙ added_within xs x (is_within is_rows (section_of xs) x) refl parts.1
+        ∙ ap (λ (names : List (List ℕ)). fold grown names (row_tells xs x)) (before parts.0)
         ∙ sym (fold-append grown [] (told row_tells [] xs) (row_tells xs x))
         ∙ sym (ap (fold grown []) (told_push row_tells xs x))
 
@@ -159,6 +163,10 @@ clean_ended lines before (n, line, at_line, is, none, ends, clean) =
     let whole : before ≡ take n lines ++ line ∷ [] = is ∙ take_more lines n line at_line.0 ∙ ap (λ (l : TextLine). take n lines ++ l ∷ []) at_line.1 in
     subst AreClean (sym whole) (clean_more (take n lines) line (clean_front lines n at_line.0 clean) none)
 
+-- no line of an accepted file has a fault
+pub accepted_clean : (lines before : List TextLine) → outcome_of lines ≡ Ended before → AreClean before
+accepted_clean lines before is = clean_ended lines before (subst (λ (o : Outcome TextLine CoreKind (List TextLine)). Says fault_behind is_end lines o) is (says fault_behind is_end lines))
+
 -- the rows of an accepted file
 pub rows_in_order : (lines before : List TextLine) → outcome_of lines ≡ Ended before → AreInOrder row_given before (rows_of before).names
-rows_in_order lines before is = rows_of_clean before (clean_ended lines before (subst (λ (o : Outcome TextLine CoreKind (List TextLine)). Says fault_behind is_end lines o) is (says fault_behind is_end lines)))
+rows_in_order lines before is = rows_of_clean before (accepted_clean lines before is)

@@ -1,7 +1,10 @@
 mod Accepted
+mod BoxMoves
 mod ByNumber
 mod Facts
 mod GivenNames
 mod NameOrders
+mod RowsStay
 mod Saying
 mod Sorting
+mod WholeNames

@@ -1,6 +1,6 @@
 -- What lists of lines tell is what one of the lines tells, behind those before it; so with the pairs of COLUMNS, and the entries made of them.
 use Rattle.std.proofs.Common.{◌≡◌, refl, sym, subst, ap, ◌∙◌, ℕ, suc, zero, ◌+◌, ◌-◌, ◌<◌, Bool, true, false, List, [], ◌∷◌, ◌++◌, length, map, take, get_or, append_assoc, inl, inr, arith}
-use Rattle.std.specs.Prelude.{◌⊎◌, cond, if◌then◌else◌, Option, Some, None}
+use Rattle.std.specs.Prelude.{◌⊎◌, ◌&&◌, cond, not, if◌then◌else◌, Option, Some, None}
 use Rattle.std.specs.List.{Contains, filter}
 use Rattle.std.proofs.lemmas.Bool.{cases_eq}
 use Rattle.std.proofs.lemmas.Grind.{common_steps}
@@ -9,15 +9,24 @@ use Rattle.std.proofs.lemmas.List.Elements.{All-contains_itself, All-filter, Con
 use Rattle.std.proofs.lemmas.List.Sorted.{Contains-permutation, IsPermutation-sym}
 use Rattle.dec_core.specs.declared.decimal.Decimal.{Decimal}
 use Rattle.smps_words.specs.CoreFacts.{zero_decimal}
+use Rattle.line_core.specs.Names.{number_of}
+use Rattle.smps_words.specs.NumberFields.{number_in}
 use Rattle.smps_words.specs.Outcomes.{told}
-use Rattle.smps_words.specs.TextLines.{TextLine, no_line}
+use Rattle.smps_words.specs.Outcomes.Outcome.{Ended}
+use Rattle.smps_words.specs.TextLines.{TextLine, field, no_line}
 use Rattle.smps_words.specs.declared.core_data.CoreEntry.{CoreEntry}
-use Rattle.core_lines.specs.ColumnLines.{cell_for, cell_in, cells_in, has_second, is_marker}
+use Rattle.core_lines.specs.ColumnLines.{cell_for, cell_in, cells_in, column_number, has_second, is_marker}
 use Rattle.core_lines.specs.Headers.{is_columns}
 use Rattle.core_lines.specs.Lines.{cells_of, column_names_of, is_within, rows_of, section_of}
+use Rattle.core_lines.specs.Meaning.{outcome_of}
+use Rattle.core_lines.specs.Parts.{RowsSaid}
+use Rattle.core_lines.specs.RowLines.{place_of}
 use Rattle.core_lines.specs.declared.cells.Cell.{Cell}
+use Rattle.smps_core.proofs.GivenNames.{AreClean, accepted_clean}
+use Rattle.smps_core.proofs.RowsStay.{rows_stay}
+use Rattle.smps_core.proofs.WholeNames.{number_in_all}
 use Rattle.smps_core.specs.CoreData.{AreEntriesOf, entries_of, entry_of, is_entry}
-use Rattle.smps_core.specs.Laws.{BothWays, HasPairAt, IsSaid, SaysCell, cell_at}
+use Rattle.smps_core.specs.Laws.{BothWays, HasPair, HasPairAt, IsColumnsLine, IsSaid, IsSaidByAll, SaysCell, cell_at}
 
 none_in : {X : Type 0} (x : X) → Contains [] x → ⊥
 none_in x (k, lt, is) = omega (arith, lt)
@@ -56,39 +65,93 @@ of_parts place column value number c (row, col, val, num) =
     let same : record { row = c.row; column = column; value = value; line = number } ≡ c = λ i. record { row = c.row; column = col i; value = val i; line = num i } in
     subst (λ (p : Option ℕ). Contains (cell_for p column value number) c) (sym row) (0, omega arith, same)
 
+-- the pair at field k of a line, by the rows and columns of the lines before it
+abbrev TellsPairAt : List TextLine → TextLine → ℕ → Cell → Type 0
+TellsPairAt before line k c = AreParts (place_of (rows_of before) (field k line)) (column_number (column_names_of before) (field 0 line)) (number_in (field (k + 1) line)) line.number c
+
+abbrev TellsPair : List TextLine → TextLine → Cell → Type 0
+TellsPair before line c = TellsPairAt before line 1 c ⊎ ((has_second line ≡ true) × TellsPairAt before line 3 c)
+
+abbrev TellsCell : List TextLine → TextLine → Cell → Type 0
+TellsCell before line c = IsColumnsLine before line × TellsPair before line c
+
 -- what a line of COLUMNS tells, by the tests on it
-said_by_line : (before : List TextLine) (line : TextLine) (c : Cell) (w m s : Bool) → is_within is_columns (section_of before) line ≡ w → is_marker line ≡ m → has_second line ≡ s → Contains (if w then (if m then [] else (cell_in (rows_of before) (column_names_of before) 1 line ++ (if s then cell_in (rows_of before) (column_names_of before) 3 line else []))) else []) c → SaysCell before line c
+said_by_line : (before : List TextLine) (line : TextLine) (c : Cell) (w m s : Bool) → is_within is_columns (section_of before) line ≡ w → is_marker line ≡ m → has_second line ≡ s → Contains (if w then (if m then [] else (cell_in (rows_of before) (column_names_of before) 1 line ++ (if s then cell_in (rows_of before) (column_names_of before) 3 line else []))) else []) c → TellsCell before line c
 said_by_line before line c false m s within marker second there = absurd (none_in c there)
 said_by_line before line c true true s within marker second there = absurd (none_in c there)
 said_by_line before line c true false s within marker second there = ((within, marker), by s second (Contains-append_cases (cell_in (rows_of before) (column_names_of before) 1 line) (if s then cell_in (rows_of before) (column_names_of before) 3 line else []) c there))
   where
-    by : (t : Bool) → has_second line ≡ t → Contains (cell_in (rows_of before) (column_names_of before) 1 line) c ⊎ Contains (if t then cell_in (rows_of before) (column_names_of before) 3 line else []) c → HasPairAt before line 1 c ⊎ ((has_second line ≡ true) × HasPairAt before line 3 c)
+    by : (t : Bool) → has_second line ≡ t → Contains (cell_in (rows_of before) (column_names_of before) 1 line) c ⊎ Contains (if t then cell_in (rows_of before) (column_names_of before) 3 line else []) c → TellsPair before line c
     by t is (inl here) = inl (parts_of _ _ _ _ c here)
     by true is (inr there) = inr (is, parts_of _ _ _ _ c there)
     by false is (inr there) = absurd (none_in c there)
 
-line_says : (before : List TextLine) (line : TextLine) (c : Cell) → SaysCell before line c → Contains (if is_within is_columns (section_of before) line then cells_in (rows_of before) (column_names_of before) line else []) c
+line_says : (before : List TextLine) (line : TextLine) (c : Cell) → TellsCell before line c → Contains (if is_within is_columns (section_of before) line then cells_in (rows_of before) (column_names_of before) line else []) c
 line_says before line c ((within, marker), pair) =
     let first : List Cell = cell_in (rows_of before) (column_names_of before) 1 line in
     let second : List Cell = cell_in (rows_of before) (column_names_of before) 3 line in
     subst (λ (w : Bool). Contains (if w then cells_in (rows_of before) (column_names_of before) line else []) c) (sym within)
     (subst (λ (m : Bool). Contains (if m then [] else (first ++ (if has_second line then second else []))) c) (sym marker) (by pair))
   where
-    by : HasPairAt before line 1 c ⊎ ((has_second line ≡ true) × HasPairAt before line 3 c) → Contains (cell_in (rows_of before) (column_names_of before) 1 line ++ (if has_second line then cell_in (rows_of before) (column_names_of before) 3 line else [])) c
+    by : TellsPair before line c → Contains (cell_in (rows_of before) (column_names_of before) 1 line ++ (if has_second line then cell_in (rows_of before) (column_names_of before) 3 line else [])) c
     by (inl parts) = Contains-append_left (cell_in (rows_of before) (column_names_of before) 1 line) (if has_second line then cell_in (rows_of before) (column_names_of before) 3 line else []) c (of_parts _ _ _ _ c parts)
     by (inr (has, parts)) = Contains-append_right (cell_in (rows_of before) (column_names_of before) 1 line) (if has_second line then cell_in (rows_of before) (column_names_of before) 3 line else []) c (subst (λ (t : Bool). Contains (if t then cell_in (rows_of before) (column_names_of before) 3 line else []) c) (sym has) (of_parts _ _ _ _ c parts))
 
 abbrev tells : List TextLine → TextLine → List Cell
 tells before line = if is_within is_columns (section_of before) line then cells_in (rows_of before) (column_names_of before) line else []
 
+some_is : (i j : ℕ) → Some i ≡ Some j → i ≡ j
+some_is i j is = cc
+
+-- the column by the names of all lines, in place of the number that the line gives it
+pair_in_all : (before : List TextLine) (names : List (List ℕ)) (line : TextLine) (k : ℕ) (c : Cell) → number_of (field 0 line) names ≡ Some (column_number (column_names_of before) (field 0 line)) → BothWays (TellsPairAt before line k c) (HasPairAt (rows_of before) names line k c)
+pair_in_all before names line k c number = (
+  λ (row, column, value, at). (row, number ∙ ap Some column, value, at),
+  λ (row, column, value, at). (row, some_is (column_number (column_names_of before) (field 0 line)) c.column (sym number ∙ column), value, at),
+)
+
+to_pair : (before : List TextLine) (names : List (List ℕ)) (line : TextLine) (c : Cell) → number_of (field 0 line) names ≡ Some (column_number (column_names_of before) (field 0 line)) → TellsPair before line c → HasPair (rows_of before) names line c
+to_pair before names line c number (inl first) = inl ((pair_in_all before names line 1 c number).0 first)
+to_pair before names line c number (inr (has, second)) = inr (has, (pair_in_all before names line 3 c number).0 second)
+
+to_parts : (before : List TextLine) (names : List (List ℕ)) (line : TextLine) (c : Cell) → number_of (field 0 line) names ≡ Some (column_number (column_names_of before) (field 0 line)) → HasPair (rows_of before) names line c → TellsPair before line c
+to_parts before names line c number (inl first) = inl ((pair_in_all before names line 1 c number).1 first)
+to_parts before names line c number (inr (has, second)) = inr (has, (pair_in_all before names line 3 c number).1 second)
+
+says_told : (lines : List TextLine) (c : Cell) (n : ℕ) → n < length lines → TellsCell (take n lines) (get_or lines n no_line) c → SaysCell (rows_of (take n lines)) lines c n
+says_told lines c n lt (columns, parts) = (lt, columns, to_pair (take n lines) (column_names_of lines) (get_or lines n no_line) c (number_in_all lines n lt columns) parts)
+
+told_said : (lines : List TextLine) (c : Cell) (n : ℕ) → SaysCell (rows_of (take n lines)) lines c n → TellsCell (take n lines) (get_or lines n no_line) c
+told_said lines c n (lt, columns, pair) = (columns, to_parts (take n lines) (column_names_of lines) (get_or lines n no_line) c (number_in_all lines n lt columns) pair)
+
 is_said : (lines : List TextLine) (c : Cell) → IsTold tells no_line c [] lines → IsSaid lines c
-is_said lines c (n, lt, found) = (n, lt, said_by_line (take n lines) (get_or lines n no_line) c _ _ _ refl refl refl found)
+is_said lines c (n, lt, found) = (n, says_told lines c n lt (said_by_line (take n lines) (get_or lines n no_line) c _ _ _ refl refl refl found))
+
+is_told : (lines : List TextLine) (c : Cell) → IsSaid lines c → Contains (cells_of lines) c
+is_told lines c (n, says) = by_a_line tells no_line c [] lines n says.0 (line_says (take n lines) (get_or lines n no_line) c (told_said lines c n says))
 
 pub said_both : (lines : List TextLine) (c : Cell) → BothWays (Contains (cells_of lines) c) (IsSaid lines c)
-said_both lines c = (
-  λ there. is_said lines c (at_a_line tells no_line c [] lines there),
-  λ (n, lt, found). by_a_line tells no_line c [] lines n lt (line_says (take n lines) (get_or lines n no_line) c found),
-)
+said_both lines c = (λ there. is_said lines c (at_a_line tells no_line c [] lines there), is_told lines c)
+
+-- a line of COLUMNS stands in that section
+in_columns : (header columns : Bool) → (not header && columns) ≡ true → columns ≡ true
+in_columns true columns is = absurd cc
+in_columns false columns is = is
+
+rows_same : (lines : List TextLine) (n : ℕ) → AreClean lines → IsColumnsLine (take n lines) (get_or lines n no_line) → rows_of lines ≡ rows_of (take n lines)
+rows_same lines n clean columns = rows_stay lines n clean (in_columns (get_or lines n no_line).header (is_columns (section_of (take n lines))) columns.0)
+
+to_all : (lines : List TextLine) (c : Cell) → AreClean lines → IsSaid lines c → IsSaidByAll lines c
+to_all lines c clean (n, (lt, columns, pair)) = (n, (lt, columns, subst (λ (rows : RowsSaid). HasPair rows (column_names_of lines) (get_or lines n no_line) c) (sym (rows_same lines n clean columns)) pair))
+
+of_all : (lines : List TextLine) (c : Cell) → AreClean lines → IsSaidByAll lines c → IsSaid lines c
+of_all lines c clean (n, (lt, columns, pair)) = (n, (lt, columns, subst (λ (rows : RowsSaid). HasPair rows (column_names_of lines) (get_or lines n no_line) c) (rows_same lines n clean columns) pair))
+
+-- the same in an accepted file by its rows as they are at its end
+pub said_by_all : (lines before : List TextLine) → outcome_of lines ≡ Ended before → (c : Cell) → BothWays (Contains (cells_of before) c) (IsSaidByAll before c)
+said_by_all lines before is c =
+    let clean = accepted_clean lines before is in
+    (λ there. to_all before c clean ((said_both before c).0 there), λ said. (said_both before c).1 (of_all before c clean said))
 
 -- the items that pass
 kept_item : {X : Type 0} (p : X → Bool) (y : X) (ys : List X) (x : X) (t : Bool) → Contains (filter p ys) x → Contains (cond t (y ∷ filter p ys) (filter p ys)) x

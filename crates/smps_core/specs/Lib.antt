@@ -1,3 +1,4 @@
+pub mod BoxLines
 pub mod CoreData
 pub mod CoreMeaning
 pub mod Entries

@@ -3,22 +3,25 @@ ghost use Rattle.std.specs.Prelude.{Some, None, pos};
 ghost use Rattle.std.specs.List.{Contains};
 ghost use Rattle.smps_words.specs.TextLines.{TextLine};
 ghost use Rattle.smps_words.specs.declared.core_data.CoreEntry.{CoreEntry};
-ghost use Rattle.core_lines.specs.Boxes.{lower_of, upper_of};
 ghost use Rattle.smps_words.specs.Outcomes.Outcome.{Ended};
 ghost use Rattle.core_lines.specs.Lines.{cells_of, column_names_of, rows_of};
 ghost use Rattle.core_lines.specs.Meaning.{outcome_of};
-ghost use Rattle.core_lines.specs.declared.cells.Bound.{Bound};
 ghost use Rattle.core_lines.specs.declared.cells.Cell.{Cell};
+ghost use Rattle.smps_core.specs.BoxLines.{MovesLower, MovesUpper, lower_in, upper_in};
 ghost use Rattle.smps_core.specs.CoreData.{AreEntriesOf};
-ghost use Rattle.smps_core.specs.Laws.{BothWays, IsSaid, MovesLower, MovesUpper, cell_at};
+ghost use Rattle.smps_core.specs.Laws.{BothWays, IsSaid, IsSaidByAll, cell_at};
 ghost use Rattle.smps_core.specs.NameOrder.{AreInOrder, column_given, row_given};
 
-/// A pair of row and value is among what the lines say exactly where a column's
-/// line of COLUMNS has it, behind the lines before that line. A pair of an
-/// ignored row has no row's number, and isn't there.
+/// An entry or a cost is among what the lines say exactly where a pair of a
+/// column's line of COLUMNS says it: its column is the one of the line's name
+/// among the columns of the whole file, and its row the one of the pair's name
+/// among the rows of the lines before, or, in an accepted file, among all its
+/// rows. A pair of an ignored row says none.
 pub fn cells_law()
-    ensures { (lines : List TextLine) (c : Cell) →
+    ensures each { (lines : List TextLine) (c : Cell) →
         BothWays (Contains (cells_of lines) c) (IsSaid lines c) }
+    ensures accepted { (lines before : List TextLine) → outcome_of lines ≡ Ended before →
+        (c : Cell) → BothWays (Contains (cells_of before) c) (IsSaidByAll before c) }
 {}
 
 /// An entry is there exactly where the lines say its pair, the objective's pairs
@@ -28,13 +31,15 @@ pub fn entries_law()
         (e : CoreEntry) → BothWays (Contains entries e) (Contains cells (cell_at e)) }
 {}
 
-/// The box of a column goes from 0 on without a line, and one more line of
-/// BOUNDS moves an end exactly where it speaks of that end of that column.
-pub fn boxes_law()
-    ensures start { (j : ℕ) → lower_of [] j ≡ Some (pos 0) }
-    ensures endless { (j : ℕ) → upper_of [] j ≡ None }
-    ensures lower { (bounds : List Bound) (bound : Bound) (j : ℕ) → MovesLower bounds bound j }
-    ensures upper { (bounds : List Bound) (bound : Bound) (j : ℕ) → MovesUpper bounds bound j }
+/// The box of a column is what its lines say one after another: without lines it
+/// goes from 0 on without an end, and one more line, behind any lines, moves an end
+/// exactly where it is a line of BOUNDS of the used set, names that column, and its
+/// kind speaks of that end; then the end is the one that its kind and value say.
+pub fn box_lines_law()
+    ensures start { (j : ℕ) → lower_in [] j ≡ Some (pos 0) }
+    ensures endless { (j : ℕ) → upper_in [] j ≡ None }
+    ensures lower { (lines : List TextLine) (line : TextLine) (j : ℕ) → MovesLower lines line j }
+    ensures upper { (lines : List TextLine) (line : TextLine) (j : ℕ) → MovesUpper lines line j }
 {}
 
 /// The names of the columns are distinct and stand in the order of the lines of

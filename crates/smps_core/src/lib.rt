@@ -11,6 +11,6 @@ mod rows;
 mod sides;
 
 pub use core_lines::{CoreFault, CoreKind, first_fault_law};
-pub use laws::{boxes_law, cells_law, entries_law, names_law};
+pub use laws::{box_lines_law, cells_law, entries_law, names_law};
 pub use reading::read_core;
 pub use smps_words::{Core, CoreColumn, CoreEntry, CoreRow, RowKind};
