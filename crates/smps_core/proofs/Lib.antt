@@ -1,4 +1,5 @@
 mod Accepted
+mod BoxEnds
 mod BoxMoves
 mod ByNumber
 mod Facts

@@ -3,6 +3,7 @@ use Rattle.std.specs.Prelude.{◌≡◌, ℕ, ◌==◌, Bool, false, ◌&&◌, L
 use Rattle.std.specs.Option.{option_map_or}
 use Rattle.line_core.specs.Names.{number_of}
 use Rattle.smps_words.specs.TextLines.{TextLine}
+use Rattle.smps_words.specs.declared.core_data.CoreColumn.{CoreColumn}
 use Rattle.core_lines.specs.BoundLines.{bound_set, column_word, kind_of, lower_said, upper_said, value_of}
 use Rattle.core_lines.specs.Boxes.{end_said, lower_of, speaks, upper_of}
 use Rattle.core_lines.specs.Headers.{is_bounds}
@@ -39,3 +40,7 @@ MovesLower before line j = lower_in (before ++ line ∷ []) j ≡ (if is_bound_o
 
 abbrev pub MovesUpper : List TextLine → TextLine → ℕ → Type 0
 MovesUpper before line j = upper_in (before ++ line ∷ []) j ≡ (if is_bound_of before line j && speaks (upper_change line) then end_said (upper_change line) else upper_in before j)
+
+-- a column of the data has the ends that these lines come to
+abbrev pub HasEnds : List TextLine → CoreColumn → ℕ → Type 0
+HasEnds lines column j = (column.lower ≡ lower_in lines j) × (column.upper ≡ upper_in lines j)
