@@ -1,0 +1,191 @@
+ghost use Rattle.std.specs.Prelude.{◌≡◌, ◌+◌, ◌*◌, ◌<◌, ◌≤◌, ◌^◌, ℤ, ◌+ℤ◌, ◌-ℤ◌, ◌*ℤ◌, pos, length, map, unsigned_abs, IfOk};
+ghost use Rattle.std.specs.List.{range_with_len};
+ghost use Rattle.base_words.specs.Sums.{number_at};
+ghost use Rattle.boxed_problem.specs.Data.{problem_of};
+ghost use Rattle.hedging.specs.Bundles.{nodes_for};
+ghost use Rattle.hedging.specs.Totals.{AreTotals, IsInner};
+ghost use Rattle.put_words.specs.Hedged.{hedged_in, hedged_line, hedged_square, pull};
+ghost use Rattle.put_words.specs.NodeSums.{AreInside, node_for};
+ghost use Rattle.run_calls.specs.MultiplierTests.{AreLong, AreSized};
+ghost use Rattle.sp_model.specs.Plans.{multiplier_of};
+ghost use Rattle.sp_model.specs.Problems.{problem_in, scenarios};
+
+use crate::bundles::{node_for, nodes_for};
+use crate::moving::rate;
+use crate::totals::Totals;
+use boxed_problem::Boxed;
+use put_words::{minus, plus, quotient, times, with_objective};
+use run_calls::multiplier;
+use sp_model::{Multipliers, Run};
+use std::alloc::{AllocError, Global};
+use wide_num::List;
+
+// Twice a number of small magnitude.
+fn twice(a: i128) -> i128
+    requires { unsigned_abs a ≤ 2 ^ 123 }
+    ensures { result ≡ pos 2 *ℤ a }
+{
+    2 * a
+}
+
+// Twice penalty times weight times the mean of a scenario's node, rounded down.
+fn pull(run: &Run, x: &List<i64>, totals: &Totals, node: u32, scenario: u32, column: u32) -> i128
+    requires inside { AreInside run.now x.now }
+    requires totals { AreTotals run.now x.now totals.now }
+    requires node { IsInner run.now node }
+    requires is { node ≡ node_for run.now scenario column }
+    requires scenario { scenario < scenarios run.now }
+    requires column { column < run.now.nonleaf }
+    ensures { result ≡ pull run.now x.now scenario column }
+{
+    let product = times(twice(rate(run, scenario)), totals.sum(run, x, node, column));
+    quotient(product, totals.weight(run, x, node))
+}
+
+// The linear part of a nonleaf column: twice its cost and its multiplier, less
+// the pull.
+fn early_cost(
+    run: &Run,
+    multipliers: &Multipliers,
+    x: &List<i64>,
+    totals: &Totals,
+    nodes: &[u32],
+    scenario: u32,
+    column: u32,
+    cost: i128,
+) -> i128
+    requires long { AreLong run.now multipliers.now }
+    requires sized { AreSized run.now multipliers.now }
+    requires inside { AreInside run.now x.now }
+    requires totals { AreTotals run.now x.now totals.now }
+    requires nodes { nodes.now ≡ nodes_for run.now scenario }
+    requires scenario { scenario < scenarios run.now }
+    requires column { column < run.now.nonleaf }
+    requires small { unsigned_abs cost ≤ 2 ^ 122 }
+    ensures { result
+        ≡ (pos 2 *ℤ (cost +ℤ multiplier_of run.now multipliers.now scenario column)) -ℤ pull run.now
+        x.now scenario column }
+{
+    let node = node_for(run, nodes, scenario, column);
+    let priced = plus(cost, multiplier(run, multipliers, scenario, column));
+    minus(twice(priced), pull(run, x, totals, node, scenario, column))
+}
+
+// The linear part of a column.
+fn hedged_cost(
+    run: &Run,
+    multipliers: &Multipliers,
+    x: &List<i64>,
+    totals: &Totals,
+    nodes: &[u32],
+    scenario: u32,
+    column: u32,
+    cost: i128,
+) -> i128
+    requires long { AreLong run.now multipliers.now }
+    requires sized { AreSized run.now multipliers.now }
+    requires inside { AreInside run.now x.now }
+    requires totals { AreTotals run.now x.now totals.now }
+    requires nodes { nodes.now ≡ nodes_for run.now scenario }
+    requires scenario { scenario < scenarios run.now }
+    requires cost { cost ≡ number_at (problem_in run.now scenario).line column }
+    requires small { unsigned_abs cost ≤ 2 ^ 122 }
+    ensures { result ≡ hedged_line run.now multipliers.now x.now scenario column }
+{
+    if column < run.nonleaf {
+        early_cost(run, multipliers, x, totals, nodes, scenario, column, cost)
+    } else {
+        twice(cost)
+    }
+}
+
+// The linear parts of all columns.
+fn hedged_costs(
+    alloc: Global,
+    run: &Run,
+    multipliers: &Multipliers,
+    x: &List<i64>,
+    totals: &Totals,
+    scenario: u32,
+    costs: &[i128],
+) -> Result<List<i128>, AllocError>
+    requires long { AreLong run.now multipliers.now }
+    requires sized { AreSized run.now multipliers.now }
+    requires inside { AreInside run.now x.now }
+    requires totals { AreTotals run.now x.now totals.now }
+    requires scenario { scenario < scenarios run.now }
+    requires costs { costs.now ≡ (problem_in run.now scenario).line }
+    ensures { IfOk result
+        (λ line. line
+        ≡ map (hedged_line run.now multipliers.now x.now scenario)
+        (range_with_len 0 (length run.now.program.columns))) }
+{
+    let nodes = nodes_for(alloc, run, scenario)?;
+    let mut line = List::new(alloc);
+    for column in 0..run.program.columns.len() as u32 {
+        let cost = costs[column as usize];
+        line.push(hedged_cost(
+            run,
+            multipliers,
+            x,
+            totals,
+            nodes.as_slice(),
+            scenario,
+            column,
+            cost,
+        ))?;
+    }
+    Ok(line)
+}
+
+// The square part of a column: penalty times weight where it is a nonleaf one.
+fn penalty(run: &Run, scenario: u32, column: u32) -> i128
+    requires { scenario < scenarios run.now }
+    ensures { result ≡ hedged_square run.now scenario column }
+{
+    if column < run.nonleaf {
+        rate(run, scenario)
+    } else {
+        0
+    }
+}
+
+// The square parts of all columns.
+fn penalties(alloc: Global, run: &Run, scenario: u32) -> Result<List<i128>, AllocError>
+    requires { scenario < scenarios run.now }
+    ensures { IfOk result
+        (λ square. square
+        ≡ map (hedged_square run.now scenario)
+        (range_with_len 0 (length run.now.program.columns))) }
+{
+    let mut square = List::new(alloc);
+    for column in 0..run.program.columns.len() as u32 {
+        square.push(penalty(run, scenario, column))?;
+    }
+    Ok(square)
+}
+
+/// The hedged problem of a scenario at multipliers and the values that they were
+/// moved by.
+pub fn hedged(
+    alloc: Global,
+    run: &Run,
+    multipliers: &Multipliers,
+    x: &List<i64>,
+    totals: &Totals,
+    scenario: u32,
+) -> Result<Boxed, AllocError>
+    requires long { AreLong run.now multipliers.now }
+    requires sized { AreSized run.now multipliers.now }
+    requires inside { AreInside run.now x.now }
+    requires totals { AreTotals run.now x.now totals.now }
+    requires scenario { scenario < scenarios run.now }
+    ensures { IfOk result
+        (λ problem. problem_of problem ≡ hedged_in run.now multipliers.now x.now scenario) }
+{
+    let problem = run.scenario(alloc, scenario)?;
+    let costs = problem.line.as_slice();
+    let line = hedged_costs(alloc, run, multipliers, x, totals, scenario, costs)?;
+    let square = penalties(alloc, run, scenario)?;
+    Ok(with_objective(problem, 0, line, square))
+}
