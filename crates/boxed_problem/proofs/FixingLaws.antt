@@ -2,7 +2,7 @@
 use Rattle.std.proofs.Common.{arith, refl, ap, sym, subst, ◌∙◌, ℕ, zero, suc, ◌<◌, ◌≤◌, List, [], ◌∷◌, length, set, ℤ, ◌≤ℤ◌}
 use Rattle.std.proofs.lemmas.Int.{ints}
 use Rattle.std.specs.List.{All}
-use Rattle.boxed_problem.specs.Facts.{IsBoxed, column_size}
+use Rattle.boxed_problem.specs.BoxedFacts.{IsBoxed, column_size}
 use Rattle.boxed_problem.specs.Sides.{Filled, Within, side_at}
 use Rattle.base_words.specs.Sums.{size_below}
 use Rattle.boxed_problem.specs.declared.parts.Entry.{Entry}

@@ -1,13 +1,13 @@
 pub mod Magnitudes
 pub mod Listing
-pub mod Stepping
+mod Stepping
 pub mod Least
 pub mod RowTests
 pub mod SameData
 pub mod Members
-pub mod Ordered
+mod Ordered
 pub mod Optimal
-pub mod PointCounts
+mod PointCounts
 pub mod FixingLaws
 pub mod Narrower
 pub mod Lying

@@ -9,7 +9,7 @@ use Rattle.std.specs.List.{All, sum_by}
 use Rattle.base_words.proofs.Magnitudes.{abs-add, abs_between, fits_from_abs}
 use Rattle.base_words.proofs.SumBounds.{sum_below-abs, size_below-le, size_below-part, fold-abs_all}
 use Rattle.boxed_problem.specs.Objective.{curve, value_part}
-use Rattle.boxed_problem.specs.Facts.{column_size, value_size, entry_size}
+use Rattle.boxed_problem.specs.BoxedFacts.{column_size, value_size, entry_size}
 use Rattle.boxed_problem.specs.Rows.{activity, activity_part}
 use Rattle.boxed_problem.specs.declared.parts.Entry.{Entry}
 use Rattle.boxed_problem.specs.Points.{InBox}

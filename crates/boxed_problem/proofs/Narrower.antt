@@ -4,7 +4,7 @@ use Rattle.std.proofs.lemmas.Int.{ints}
 use Rattle.std.proofs.lemmas.List.Sums.{sum_by-cons}
 use Rattle.std.proofs.Math.Nat.{mul-le-mul, mul-le-mul_left}
 use Rattle.std.specs.List.{sum_by}
-use Rattle.boxed_problem.specs.Facts.{column_size, entry_size, value_size}
+use Rattle.boxed_problem.specs.BoxedFacts.{column_size, entry_size, value_size}
 use Rattle.boxed_problem.specs.Sides.{Within, reach, side_at}
 use Rattle.base_words.specs.Sums.{number_at, size_below}
 use Rattle.boxed_problem.specs.declared.parts.Entry.{Entry}

@@ -1,6 +1,6 @@
 -- The test of all rows at once holds exactly where each row is met.
 use Rattle.std.proofs.Common.{arith, refl, sym, subst, ◌∙◌, ◌≡◌, ℕ, zero, suc, ◌<◌, Bool, true, false, nat_lt, List, length, ℤ}
-use Rattle.boxed_problem.specs.Facts.{limits_at}
+use Rattle.boxed_problem.specs.BoxedFacts.{limits_at}
 use Rattle.boxed_problem.specs.Optimum.{Feasible, meets_all}
 use Rattle.boxed_problem.specs.Points.{InBox}
 use Rattle.boxed_problem.specs.Rows.{activity, meets, meets_rows}

@@ -1,5 +1,5 @@
 pub mod Data
-pub mod Facts
+pub mod BoxedFacts
 pub mod Fixing
 pub mod Objective
 pub mod Odometer

@@ -1,6 +1,6 @@
 -- Which prices of rows fit a problem: their signs, and how great they may be.
 use Rattle.std.specs.Prelude.{◌≡◌, ℕ, ◌+◌, ◌*◌, ◌^◌, ◌<◌, ◌≤◌, length, ℤ, pos, ◌≤ℤ◌, unsigned_abs, None}
-use Rattle.boxed_problem.specs.Facts.{limits_at, row_size, value_size}
+use Rattle.boxed_problem.specs.BoxedFacts.{limits_at, row_size, value_size}
 use Rattle.base_words.specs.Sums.{number_at, size_below}
 use Rattle.boxed_problem.specs.declared.parts.Limits.{Limits}
 use Rattle.boxed_problem.specs.declared.parts.Prices.{Prices}

@@ -1,9 +1,9 @@
 ghost use Rattle.std.specs.Prelude.{◌≡◌, ℕ, ◌+◌, ◌^◌, ◌<◌, ◌≤◌, ◌≤ℤ◌, ◌↔◌, IsTrue, IfNone, IfSome, length, pos};
 ghost use Rattle.std.specs.List.{All};
-ghost use Rattle.boxed_problem.specs.Facts.{ComesBefore, IsBoxed, entry_at, row_size};
+ghost use Rattle.boxed_problem.specs.BoxedFacts.{ComesBefore, IsBoxed, entry_at, row_size};
 ghost use Rattle.boxed_problem.specs.Parts.{HasParts};
 
-use crate::magnitude::{PART_MOST, row_size_upto, value_size_upto};
+use crate::magnitude::{MAX_PART, row_size_upto, value_size_upto};
 use crate::parts::{Entry, Limits, Side};
 use crate::problem::Boxed;
 use wide_num::List;
@@ -58,7 +58,7 @@ fn rows_fit(columns: &[Side], rows: &[Limits], entries: &[Entry]) -> bool
         ↔ ((i : ℕ) → i < length rows.now → row_size columns.now rows.now entries.now i ≤ 2 ^ 122) }
 {
     for row in 0..rows.len() {
-        if row_size_upto(columns, rows, entries, row, PART_MOST).is_none() {
+        if row_size_upto(columns, rows, entries, row, MAX_PART).is_none() {
             return false;
         }
     }
@@ -85,7 +85,7 @@ fn are_parts(
     if !are_placed(entries, rows.len(), columns.len()) || !are_ascending(entries) {
         return false;
     }
-    value_size_upto(columns, constant, line, square, PART_MOST).is_some()
+    value_size_upto(columns, constant, line, square, MAX_PART).is_some()
         && rows_fit(columns, rows, entries)
 }
 

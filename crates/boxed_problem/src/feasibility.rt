@@ -1,7 +1,7 @@
 ghost use Rattle.std.specs.Prelude.{◌≡◌, ◌*◌, ◌*ℤ◌, ◌^◌, ◌≤◌, ◌<◌, ◌↔◌, IsTrue, length, unsigned_abs};
 ghost use Rattle.std.specs.List.{All, sum_by};
 ghost use Rattle.boxed_problem.specs.Data.{problem_of};
-ghost use Rattle.boxed_problem.specs.Facts.{entry_size};
+ghost use Rattle.boxed_problem.specs.BoxedFacts.{entry_size};
 ghost use Rattle.boxed_problem.specs.Optimum.{Feasible, meets_all};
 ghost use Rattle.boxed_problem.specs.Points.{InBox};
 ghost use Rattle.boxed_problem.specs.Rows.{activity, activity_part, is_above, is_below, meets};

@@ -1,12 +1,12 @@
 ghost use Rattle.std.specs.Prelude.{◌≡◌, ◌+◌, ◌*◌, ◌<◌, ◌≤◌, length, unsigned_abs, MatchOption};
 ghost use Rattle.std.specs.List.{All};
-ghost use Rattle.boxed_problem.specs.Facts.{entry_size, limit_size, limits_size, row_size, value_size};
+ghost use Rattle.boxed_problem.specs.BoxedFacts.{entry_size, limit_size, limits_size, row_size, value_size};
 ghost use Rattle.boxed_problem.specs.Sides.{reach};
 
 use crate::parts::{Entry, Limits, Side};
 
 /// The greatest magnitude of an objective, and of a row, of a problem.
-pub const PART_MOST: u128 = 1 << 122;
+pub const MAX_PART: u128 = 1 << 122;
 
 /// The greater magnitude of a side's ends.
 fn side_reach(side: Side) -> u64

@@ -2,12 +2,12 @@ ghost use Rattle.std.specs.Prelude.{◌≡◌, ◌+◌, ◌*◌, ◌^◌, ◌≤
 ghost use Rattle.boxed_problem.specs.Data.{problem_of};
 ghost use Rattle.boxed_problem.specs.PriceFit.{FitsPrices, HasSign, price_size};
 
-use crate::magnitude::{PART_MOST, add_product, row_size_upto, value_size_upto};
+use crate::magnitude::{MAX_PART, add_product, row_size_upto, value_size_upto};
 use crate::parts::{Limits, Prices};
 use crate::problem::Boxed;
 
 /// The greatest magnitude that prices may have.
-const SIZE_MOST: u128 = 1 << 125;
+const MAX_SIZE: u128 = 1 << 125;
 
 /// Whether a price has the sign that the limits of its row ask for.
 fn has_sign(limits: Limits, price: i128) -> bool
@@ -28,17 +28,17 @@ impl Boxed {
         let line = self.line.as_slice();
         let square = self.square.as_slice();
         let values = prices.values.as_slice();
-        let Some(span) = value_size_upto(columns, self.constant, line, square, PART_MOST) else {
+        let Some(span) = value_size_upto(columns, self.constant, line, square, MAX_PART) else {
             return false;
         };
-        let Some(mut sum) = add_product(0, prices.scale.unsigned_abs(), span, SIZE_MOST) else {
+        let Some(mut sum) = add_product(0, prices.scale.unsigned_abs(), span, MAX_SIZE) else {
             return false;
         };
         for i in 0..rows.len() {
-            let Some(size) = row_size_upto(columns, rows, entries, i, PART_MOST) else {
+            let Some(size) = row_size_upto(columns, rows, entries, i, MAX_PART) else {
                 return false;
             };
-            let Some(next) = add_product(sum, values[i].unsigned_abs(), size, SIZE_MOST) else {
+            let Some(next) = add_product(sum, values[i].unsigned_abs(), size, MAX_SIZE) else {
                 return false;
             };
             sum = next;

@@ -1,4 +1,4 @@
-ghost use Rattle.boxed_problem.specs.Facts.{IsBoxed};
+ghost use Rattle.boxed_problem.specs.BoxedFacts.{IsBoxed};
 
 use crate::parts::{Entry, Limits, Side};
 use wide_num::List;

@@ -3,7 +3,7 @@ use Rattle.std.proofs.Common.{arith, List, length, ℤ, pos, ◌+ℤ◌, Some, F
 use Rattle.std.proofs.lemmas.Int.{ints}
 use Rattle.std.specs.Int.{w128}
 use Rattle.boxed_problem.specs.Data.{problem_of}
-use Rattle.boxed_problem.specs.Facts.{column_size}
+use Rattle.boxed_problem.specs.BoxedFacts.{column_size}
 use Rattle.boxed_problem.specs.Objective.{value_part}
 use Rattle.base_words.specs.Sums.{number_at, sum_below}
 use Rattle.boxed_problem.specs.declared.problem.Boxed.{Boxed}

@@ -3,7 +3,7 @@ use Rattle.std.proofs.Common.{arith, refl, ap, sym, subst, ◌∙◌, ◌≡◌,
 use Rattle.std.proofs.lemmas.Int.{ints}
 use Rattle.boxed_problem.specs.Data.{Problem}
 use Rattle.safe_bound.specs.Leasts.{least_part}
-use Rattle.boxed_problem.specs.Facts.{column_size}
+use Rattle.boxed_problem.specs.BoxedFacts.{column_size}
 use Rattle.boxed_problem.specs.Objective.{value_of, value_part}
 use Rattle.boxed_problem.specs.Optimum.{improves, meets_all}
 use Rattle.boxed_problem.specs.Points.{InBox}

@@ -3,7 +3,7 @@ use Rattle.std.proofs.Common.{arith, refl, ap, sym, subst, ◌∙◌, ◌≡◌,
 use Rattle.std.proofs.lemmas.Int.{ints, clamps}
 use Rattle.std.specs.Int.{int_max, int_min}
 use Rattle.boxed_problem.specs.Data.{Problem}
-use Rattle.boxed_problem.specs.Facts.{limits_at}
+use Rattle.boxed_problem.specs.BoxedFacts.{limits_at}
 use Rattle.branch_bound.specs.Halves.{Halves, halves}
 use Rattle.safe_bound.specs.Leasts.{least_part, least_value}
 use Rattle.boxed_problem.specs.Objective.{value_of}

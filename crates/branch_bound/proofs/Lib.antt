@@ -1,15 +1,15 @@
-pub mod Ahead
-pub mod Bars
-pub mod BetterLaws
-pub mod Cutting
-pub mod CurveCuts
-pub mod Descending
-pub mod FrameLaws
-pub mod GridLaws
-pub mod HalfLaws
-pub mod Opening
-pub mod SearchLaws
-pub mod Stack
-pub mod Steps
-pub mod Trees
-pub mod Unpriced
+mod Ahead
+mod Bars
+mod BetterLaws
+mod Cutting
+mod CurveCuts
+mod Descending
+mod FrameLaws
+mod GridLaws
+mod HalfLaws
+mod Opening
+mod SearchLaws
+mod Stack
+mod Steps
+mod Trees
+mod Unpriced

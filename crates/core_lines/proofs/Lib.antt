@@ -1,7 +1,7 @@
 pub mod AnyBelow
-pub mod CellLaws
-pub mod FlagLaws
+mod CellLaws
+mod FlagLaws
 pub mod LatestLaws
 pub mod NextLaw
-pub mod Readings
-pub mod RoundedSizes
+mod Readings
+mod RoundedSizes

@@ -5,7 +5,7 @@ use Rattle.std.proofs.lemmas.List.{append-nil}
 use Rattle.std.proofs.lemmas.List.Folds.{list_any-append}
 use Rattle.std.proofs.lemmas.List.Sums.{fold-append}
 use Rattle.smps_words.proofs.ToldLaws.{told_push}
-use Rattle.smps_words.specs.Outcomes.{told, last_or, first_or_none, GoesOn}
+use Rattle.smps_words.specs.Outcomes.{all_told, last_or, first_or_none, GoesOn}
 use Rattle.smps_words.specs.Tables.{◌or◌}
 use Rattle.smps_words.specs.TextLines.{TextLine}
 use Rattle.core_lines.specs.BoundLines.{bound_set, bounds_in, bounds_next}
@@ -52,7 +52,7 @@ stood_yes is lines line on = stood_push is lines line ∙ ap (λ h. has_stood is
 section_push : (lines : List TextLine) (line : TextLine) → section_of (lines ++ line ∷ []) ≡ last_or (section_of lines) (if line.header then section_of_word line ∷ [] else [])
 section_push lines line =
     let tells : List TextLine → TextLine → List Section = λ before l. if l.header then section_of_word l ∷ [] else [] in
-    ap (last_or Start) (told_push tells lines line) ∙ last_append Start (told tells [] lines) (tells lines line)
+    ap (last_or Start) (told_push tells lines line) ∙ last_append Start (all_told tells [] lines) (tells lines line)
 
 headers_law : (h : Bool) (lines : List TextLine) (line : TextLine) → line.header ≡ h → headers_of (lines ++ line ∷ []) ≡ headers_next h (headers_of lines) line
 headers_law false lines line off =

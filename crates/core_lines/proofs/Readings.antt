@@ -1,6 +1,6 @@
 -- What the reader's steps come to is what the lines say.
 use Rattle.core_lines.specs.declared.state.State.{State}
-use Rattle.line_core.specs.Lines.{lines_of}
+use Rattle.line_core.specs.SplitLines.{lines_of}
 use Rattle.smps_words.proofs.Asking.{lines_ask}
 use Rattle.smps_words.specs.Memory.{MayRefuse}
 use Rattle.std.proofs.Common.{◌≡◌, refl, sym, ◌∙◌, ap, ℕ, ◌+◌, ◌<◌, ◌≤◌, arith, Bool, List, [], ◌∷◌, length, drop, get_or}

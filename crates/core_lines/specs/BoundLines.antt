@@ -72,8 +72,8 @@ value_read (Err (decimals.TooLarge negative)) = Endless negative
 value_read (Err decimals.NotNumber) = Finite zero_decimal
 value_read (Err decimals.TooManyPlaces) = Finite zero_decimal
 
-abbrev pub value_of : TextLine → BoundValue
-value_of line = value_read (decimal_of (value_word line))
+abbrev pub bound_value : TextLine → BoundValue
+bound_value line = value_read (decimal_of (value_word line))
 
 -- the fault of a bound's number, which is never that it is too large
 abbrev pub value_fault : Result Decimal DecFault → Option CoreKind
@@ -158,7 +158,7 @@ bound_for (Some kind) (Some column) value = record { column = column; lower = lo
 
 -- what a line says, if it is of the used set
 abbrev pub bounds_in : List (List ℕ) → Option (List ℕ) → TextLine → List Bound
-bounds_in names set line = if is_used set (bound_set line) then bound_for (kind_of line) (number_of (column_word line) names) (value_of line) else []
+bounds_in names set line = if is_used set (bound_set line) then bound_for (kind_of line) (number_of (column_word line) names) (bound_value line) else []
 
 -- what the bounds are after one more line, if it is a line of BOUNDS
 abbrev pub bounds_next : Bool → List (List ℕ) → BoundsSaid → TextLine → BoundsSaid
@@ -172,7 +172,7 @@ is_lowered bounds column = list_any (λ (b : Bound). (b.column == column) && b.s
 -- whether the line of a kind has a bad bound
 abbrev pub is_bad_line : List (List ℕ) → List Bound → TextLine → Option BoundKind → Bool
 is_bad_line names bounds line None = false
-is_bad_line names bounds line (Some kind) = is_bad kind (value_of line) (is_lowered bounds (unwrap_or (number_of (column_word line) names) 0))
+is_bad_line names bounds line (Some kind) = is_bad kind (bound_value line) (is_lowered bounds (unwrap_or (number_of (column_word line) names) 0))
 
 -- the fault of a line: its kind, its number of fields, its column, its number, and its value
 abbrev pub bound_fault : List (List ℕ) → BoundsSaid → TextLine → Option CoreKind
@@ -185,5 +185,5 @@ bound_fault names said line =
     or (if takes_value line then value_fault (decimal_of (value_word line)) else None)
     or first_true (
     (is_used said.set (bound_set line) && is_bad_line names said.bounds line (kind_of line), kinds.BadBound)
-    ∷ (is_used said.set (bound_set line) && (takes_value line && is_beyond (value_of line)), kinds.Limit)
+    ∷ (is_used said.set (bound_set line) && (takes_value line && is_beyond (bound_value line)), kinds.Limit)
     ∷ [])

@@ -11,7 +11,7 @@ use Rattle.smps_words.specs.Outcomes.{last_or}
 use Rattle.smps_words.specs.Tables.{first_true, ◌or◌}
 use Rattle.smps_words.specs.TextLines.{TextLine, field, field_count}
 use Rattle.core_lines.specs.Parts.{RowsSaid, ColumnsSaid}
-use Rattle.core_lines.specs.RowLines.{is_unknown, place_of}
+use Rattle.core_lines.specs.RowLines.{is_unknown, row_place}
 use Rattle.core_lines.specs.Words.{marker_word, begin_word, end_word, kind_of_number}
 use Rattle.core_lines.specs.declared.cells.Cell.{Cell}
 use Rattle.core_lines.specs.declared.kinds.CoreKind.{CoreKind}
@@ -40,7 +40,7 @@ cell_for (Some place) column value number = record { row = place; column = colum
 
 -- that of the pair at field k of a line
 abbrev pub cell_in : RowsSaid → List (List ℕ) → ℕ → TextLine → List Cell
-cell_in rows names k line = cell_for (place_of rows (field k line)) (column_number names (field 0 line)) (number_in (field (k + 1) line)) line.number
+cell_in rows names k line = cell_for (row_place rows (field k line)) (column_number names (field 0 line)) (number_in (field (k + 1) line)) line.number
 
 -- whether a line has a second pair
 abbrev pub has_second : TextLine → Bool
@@ -81,10 +81,10 @@ abbrev pub has_cell : List Cell → Option ℕ → ℕ → Bool
 has_cell cells place column = option_map_or (λ r. list_any (is_cell_of r column) cells) place false
 
 -- whether two rows are the same and aren't ignored
-abbrev pub is_same_place : Option ℕ → Option ℕ → Bool
-is_same_place None other = false
-is_same_place (Some place) None = false
-is_same_place (Some place) (Some other) = place == other
+abbrev pub is_same_row : Option ℕ → Option ℕ → Bool
+is_same_row None other = false
+is_same_row (Some place) None = false
+is_same_row (Some place) (Some other) = place == other
 
 -- the fault of a pair of row and value at field k
 abbrev pub pair_fault : RowsSaid → ℕ → TextLine → Option CoreKind
@@ -100,8 +100,8 @@ stands_together columns line =
 -- whether a line has an entry that is there already
 abbrev pub repeats : RowsSaid → ColumnsSaid → TextLine → Bool
 repeats rows columns line =
-    has_cell columns.cells (place_of rows (field 1 line)) (column_number columns.names (field 0 line))
-    || (has_second line && (has_cell columns.cells (place_of rows (field 3 line)) (column_number columns.names (field 0 line)) || is_same_place (place_of rows (field 1 line)) (place_of rows (field 3 line))))
+    has_cell columns.cells (row_place rows (field 1 line)) (column_number columns.names (field 0 line))
+    || (has_second line && (has_cell columns.cells (row_place rows (field 3 line)) (column_number columns.names (field 0 line)) || is_same_row (row_place rows (field 1 line)) (row_place rows (field 3 line))))
 
 -- the fault of a marker: three fields, of which the third begins or ends
 abbrev pub marker_fault : TextLine → Option CoreKind

@@ -4,7 +4,7 @@ use Rattle.std.specs.Option.{option_map_or}
 use Rattle.line_core.specs.Names.{number_of}
 use Rattle.smps_words.specs.CoreFacts.{IsShort, max_columns}
 use Rattle.smps_words.specs.TextLines.{TextLine, field}
-use Rattle.core_lines.specs.ColumnLines.{begins, cell_for, column_number, grown, has_cell, has_second, is_same_place}
+use Rattle.core_lines.specs.ColumnLines.{begins, cell_for, column_number, grown, has_cell, has_second, is_same_row}
 use Rattle.core_lines.specs.Parts.{RowsSaid, ColumnsSaid}
 use Rattle.core_lines.specs.States.{pair_at, with_cells}
 use Rattle.core_lines.specs.declared.cells.Cell.{Cell}
@@ -29,7 +29,7 @@ IsColumnLine rows columns line parsed =
 
 -- whether an entry of the parts is there already
 abbrev pub repeats_second : List Cell → ColumnLine → Bool
-repeats_second cells parsed = option_map_or (λ (p : RowPair). has_cell cells p.row parsed.column || is_same_place parsed.first.row p.row) parsed.second false
+repeats_second cells parsed = option_map_or (λ (p : RowPair). has_cell cells p.row parsed.column || is_same_row parsed.first.row p.row) parsed.second false
 
 abbrev pub repeats_pairs : List Cell → ColumnLine → Bool
 repeats_pairs cells parsed = has_cell cells parsed.first.row parsed.column || repeats_second cells parsed
@@ -48,8 +48,8 @@ abbrev pub ArePairsPlaced : ℕ → ColumnLine → Type 0
 ArePairsPlaced count parsed = IfSome parsed.first.row (λ row. row ≤ count) × IfSome parsed.second (λ (p : RowPair). IfSome p.row (λ row. row ≤ count))
 
 -- the columns where a line of the column of this name is taken up, without its pairs
-abbrev pub begun : ColumnsSaid → List ℕ → ColumnsSaid
-begun columns name = record {
+abbrev pub column_begun : ColumnsSaid → List ℕ → ColumnsSaid
+column_begun columns name = record {
   names = grown columns.names name;
   flags = columns.flags ++ (if is_none (number_of name columns.names) then columns.marked ∷ [] else []);
   marked = columns.marked;
@@ -68,4 +68,4 @@ cells_of_parts parsed number = cell_for parsed.first.row parsed.column parsed.fi
 
 -- the columns with the parts taken up
 abbrev pub taken : ColumnsSaid → List ℕ → ColumnLine → ℕ → ColumnsSaid
-taken columns name parsed number = with_cells (begun columns name) (columns.cells ++ cells_of_parts parsed number)
+taken columns name parsed number = with_cells (column_begun columns name) (columns.cells ++ cells_of_parts parsed number)

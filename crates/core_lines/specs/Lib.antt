@@ -17,10 +17,11 @@ pub mod Steps
 pub mod Words
 pub use Rattle.dec_core.specs.DecimalValue
 pub use Rattle.line_core.specs.Names
+pub use Rattle.line_core.specs.SplitLines
 pub use Rattle.smps_words.specs.CoreFacts
+pub use Rattle.smps_words.specs.FirstPlaces
 pub use Rattle.smps_words.specs.Memory
 pub use Rattle.smps_words.specs.NumberFields
 pub use Rattle.smps_words.specs.Outcomes
-pub use Rattle.smps_words.specs.Places
 pub use Rattle.smps_words.specs.Tables
 pub use Rattle.smps_words.specs.TextLines

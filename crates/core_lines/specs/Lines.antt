@@ -1,7 +1,7 @@
 -- What lines say, and the fault of a line by the lines before it.
 use Rattle.std.specs.Prelude.{ℕ, Bool, false, not, ◌&&◌, List, [], ◌∷◌, fold, Option, Some, if◌then◌else◌}
 use Rattle.std.specs.List.{list_any}
-use Rattle.smps_words.specs.Outcomes.{told, last_or, first_or_none}
+use Rattle.smps_words.specs.Outcomes.{all_told, last_or, first_or_none}
 use Rattle.smps_words.specs.TextLines.{TextLine}
 use Rattle.core_lines.specs.BoundLines.{bound_set, bounds_in, bounds_next, bound_fault}
 use Rattle.core_lines.specs.ColumnLines.{grown, words_in, flags_in, marks_in, is_marker, cells_in, columns_next, column_fault}
@@ -17,7 +17,7 @@ use Rattle.core_lines.specs.declared.words.Section.TheVariants.{Start, Rows, Col
 
 -- the section of the last header
 abbrev pub section_of : List TextLine → Section
-section_of lines = last_or Start (told (λ before line. if line.header then section_of_word line ∷ [] else []) [] lines)
+section_of lines = last_or Start (all_told (λ before line. if line.header then section_of_word line ∷ [] else []) [] lines)
 
 -- whether a header of this section stands among the lines
 abbrev pub has_stood : (Section → Bool) → List TextLine → Bool
@@ -32,7 +32,7 @@ is_within is section line = not line.header && is section
 
 -- all that the data lines of a section say, each by the lines before it
 abbrev pub said_in : {X : Type 0} → (Section → Bool) → (List TextLine → TextLine → List X) → List TextLine → List X
-said_in is says lines = told (λ before line. if is_within is (section_of before) line then says before line else []) [] lines
+said_in is says lines = all_told (λ before line. if is_within is (section_of before) line then says before line else []) [] lines
 
 -- ROWS
 abbrev pub rows_of : List TextLine → RowsSaid

@@ -1,6 +1,6 @@
 -- What a core file says, or its first fault.
 use Rattle.std.specs.Prelude.{◌≡◌, ℕ, List, [], Option, Result, Ok, Err, ◌<◌, length}
-use Rattle.line_core.specs.Lines.{lines_of}
+use Rattle.line_core.specs.SplitLines.{lines_of}
 use Rattle.line_core.specs.declared.line_list.Line.{Line}
 use Rattle.line_core.specs.declared.line_list.LineFault.{LineFault}
 use Rattle.line_core.specs.declared.line_list.LineFault.TheVariants.{NotAscii, TooLong, Memory}

@@ -21,8 +21,8 @@ abbrev pub is_unknown : RowsSaid → List ℕ → Bool
 is_unknown rows name = is_none (row_named rows name)
 
 -- the number of a row that isn't ignored
-abbrev pub place_of : RowsSaid → List ℕ → Option ℕ
-place_of rows name = unwrap_or (row_named rows name) None
+abbrev pub row_place : RowsSaid → List ℕ → Option ℕ
+row_place rows name = unwrap_or (row_named rows name) None
 
 -- a word that names the kind N, and one that names no kind
 abbrev pub is_free_kind : Option (Option RowKind) → Bool

@@ -7,9 +7,9 @@ use Rattle.dec_core.specs.declared.decimal.Decimal.{Decimal}
 use Rattle.smps_words.specs.NumberFields.{number_fault, number_in}
 use Rattle.smps_words.specs.Tables.{first_true, ◌or◌}
 use Rattle.smps_words.specs.TextLines.{TextLine, field, field_count}
-use Rattle.core_lines.specs.ColumnLines.{is_same_place, pair_fault}
+use Rattle.core_lines.specs.ColumnLines.{is_same_row, pair_fault}
 use Rattle.core_lines.specs.Parts.{RowsSaid, SidesSaid}
-use Rattle.core_lines.specs.RowLines.{place_of}
+use Rattle.core_lines.specs.RowLines.{row_place}
 use Rattle.core_lines.specs.Words.{kind_of_number}
 use Rattle.core_lines.specs.declared.cells.RowValue.{RowValue}
 use Rattle.core_lines.specs.declared.kinds.CoreKind.{CoreKind}
@@ -40,7 +40,7 @@ side_for None value = []
 side_for (Some place) value = record { row = place; value = value } ∷ []
 
 abbrev pub side_in : RowsSaid → ℕ → TextLine → List RowValue
-side_in rows k line = side_for (place_of rows (field k line)) (number_in (field (k + 1) line))
+side_in rows k line = side_for (row_place rows (field k line)) (number_in (field (k + 1) line))
 
 -- what a line says, if it is of the used set
 abbrev pub sides_in : RowsSaid → Option (List ℕ) → TextLine → List RowValue
@@ -61,8 +61,8 @@ has_side values place = option_map_or (λ r. list_any (λ (v : RowValue). v.row 
 -- whether a line has a value of a row that has one already
 abbrev pub repeats_side : RowsSaid → SidesSaid → TextLine → Bool
 repeats_side rows sides line =
-    has_side sides.values (place_of rows (field (first_pair line) line))
-    || (has_two_pairs line && (has_side sides.values (place_of rows (field (first_pair line + 2) line)) || is_same_place (place_of rows (field (first_pair line) line)) (place_of rows (field (first_pair line + 2) line))))
+    has_side sides.values (row_place rows (field (first_pair line) line))
+    || (has_two_pairs line && (has_side sides.values (row_place rows (field (first_pair line + 2) line)) || is_same_row (row_place rows (field (first_pair line) line)) (row_place rows (field (first_pair line + 2) line))))
 
 -- the fault of the pairs of a line of the used set
 abbrev pub used_fault : RowsSaid → SidesSaid → TextLine → Option CoreKind

@@ -3,7 +3,7 @@ use Rattle.std.specs.Prelude.{◌≡◌, ◌+◌, Bool, false, ◌||◌, List, [
 use Rattle.std.specs.Option.{option_map_or}
 use Rattle.smps_words.specs.CoreFacts.{IsShort}
 use Rattle.smps_words.specs.TextLines.{TextLine}
-use Rattle.core_lines.specs.ColumnLines.{is_same_place}
+use Rattle.core_lines.specs.ColumnLines.{is_same_row}
 use Rattle.core_lines.specs.Parts.{RowsSaid}
 use Rattle.core_lines.specs.SideLines.{first_pair, has_two_pairs, has_side, side_for, side_in}
 use Rattle.core_lines.specs.States.{pair_at}
@@ -23,7 +23,7 @@ IsSideLine rows line parsed = (parsed.first ≡ pair_at rows (first_pair line) l
 abbrev pub repeats_sides : List RowValue → SideLine → Bool
 repeats_sides values parsed =
     has_side values parsed.first.row
-    || option_map_or (λ (p : RowPair). has_side values p.row || is_same_place parsed.first.row p.row) parsed.second false
+    || option_map_or (λ (p : RowPair). has_side values p.row || is_same_row parsed.first.row p.row) parsed.second false
 
 abbrev pub AreSidesShort : SideLine → Type 0
 AreSidesShort parsed = IsShort parsed.first.value × IfSome parsed.second (λ (p : RowPair). IsShort p.value)

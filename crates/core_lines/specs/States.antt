@@ -4,7 +4,7 @@ use Rattle.smps_words.specs.NumberFields.{number_in}
 use Rattle.smps_words.specs.TextLines.{TextLine, field}
 use Rattle.core_lines.specs.HeaderParts.{headers_as}
 use Rattle.core_lines.specs.Parts.{RowsSaid, ColumnsSaid, SidesSaid, BoundsSaid, Before}
-use Rattle.core_lines.specs.RowLines.{place_of}
+use Rattle.core_lines.specs.RowLines.{row_place}
 use Rattle.core_lines.specs.declared.cells.Cell.{Cell}
 use Rattle.core_lines.specs.declared.pairs.RowPair.{RowPair}
 use Rattle.core_lines.specs.declared.kinds.CoreKind.{CoreKind}
@@ -31,7 +31,7 @@ bounds_in_part part = record { set = part.set; bounds = part.bounds }
 
 -- the pair at field k of a line
 abbrev pub pair_at : RowsSaid → ℕ → TextLine → RowPair
-pair_at rows k line = record { row = place_of rows (field k line); value = number_in (field (k + 1) line) }
+pair_at rows k line = record { row = row_place rows (field k line); value = number_in (field (k + 1) line) }
 
 -- the columns with these cells
 abbrev pub with_cells : ColumnsSaid → List Cell → ColumnsSaid

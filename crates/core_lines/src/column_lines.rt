@@ -6,7 +6,7 @@ ghost use Rattle.smps_words.specs.CoreFacts.{IsShort, max_columns};
 ghost use Rattle.smps_words.specs.Tables.{Passes};
 ghost use Rattle.smps_words.specs.TextLines.{field, text_of};
 ghost use Rattle.core_lines.specs.ColumnLines.{cell_for, column_fault, column_number, columns_next, grown, has_cell, has_second, is_cell_of, is_marker, marker_fault, pair_fault, pairs_fault, repeats, stands_together};
-ghost use Rattle.core_lines.specs.ColumnParts.{ArePairsPlaced, ArePairsShort, CanTake, IsColumnLine, IsLast, begun, repeats_pairs, second_at, taken};
+ghost use Rattle.core_lines.specs.ColumnParts.{ArePairsPlaced, ArePairsShort, CanTake, IsColumnLine, IsLast, column_begun, repeats_pairs, second_at, taken};
 ghost use Rattle.core_lines.specs.Parts.{RowsSaid};
 ghost use Rattle.core_lines.specs.States.{Keeps, Takes, columns_in, pair_at, rows_in, with_cells};
 ghost use Rattle.core_lines.specs.Words.{begin_word, marker_word};
@@ -14,7 +14,7 @@ ghost use Rattle.core_lines.specs.Words.{begin_word, marker_word};
 use crate::cells::Cell;
 use crate::growing::grow_marks;
 use crate::kinds::{CoreKind, Stop};
-use crate::pairs::{RowPair, is_same_place, pair_of};
+use crate::pairs::{RowPair, is_same_row, pair_of};
 use crate::parts::{ColumnPart, RowPart};
 use smps_words::{FileLine, same};
 
@@ -108,7 +108,7 @@ fn repeats(columns: &ColumnPart, parsed: &ColumnLine) -> bool
         None => false,
         Some(second) => {
             has_cell(columns, second.row, parsed.column)
-                || is_same_place(parsed.first.row, second.row)
+                || is_same_row(parsed.first.row, second.row)
         }
     }
 }
@@ -223,7 +223,7 @@ fn add_pair(columns: &mut ColumnPart, column: u32, pair: RowPair, number: u64) -
 fn begin_column(columns: &mut ColumnPart, begins: bool, name: &[u8]) -> Result<(), Stop>
     requires few { begins ≡ true → length columns.old.names < max_columns }
     requires fresh { begins ≡ is_none (number_of name.now columns.old.names) }
-    ensures { Keeps result (columns_in columns.new ≡ begun (columns_in columns.old) name.now) }
+    ensures { Keeps result (columns_in columns.new ≡ column_begun (columns_in columns.old) name.now) }
 {
     columns.going = true;
     if !begins {

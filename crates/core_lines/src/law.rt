@@ -1,5 +1,5 @@
 ghost use Rattle.std.specs.Prelude.{List};
-ghost use Rattle.smps_words.specs.Places.{Says};
+ghost use Rattle.smps_words.specs.FirstPlaces.{Says};
 ghost use Rattle.smps_words.specs.TextLines.{TextLine};
 ghost use Rattle.core_lines.specs.Lines.{is_end};
 ghost use Rattle.core_lines.specs.Meaning.{fault_behind, outcome_of};

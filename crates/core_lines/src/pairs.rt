@@ -3,7 +3,7 @@ ghost use Rattle.smps_words.specs.CoreFacts.{IsShort};
 ghost use Rattle.smps_words.specs.NumberFields.{number_fault, number_in};
 ghost use Rattle.smps_words.specs.Tables.{Passes};
 ghost use Rattle.smps_words.specs.TextLines.{field, text_of};
-ghost use Rattle.core_lines.specs.ColumnLines.{is_same_place, pair_fault};
+ghost use Rattle.core_lines.specs.ColumnLines.{is_same_row, pair_fault};
 ghost use Rattle.core_lines.specs.RowLines.{row_named};
 ghost use Rattle.core_lines.specs.States.{pair_at, rows_in};
 ghost use Rattle.core_lines.specs.Words.{kind_of_number};
@@ -50,8 +50,8 @@ pub fn pair_of(rows: &RowPart, line: &FileLine<'_>, k: usize) -> Result<RowPair,
 }
 
 /// Whether two rows are the same and aren't ignored.
-pub fn is_same_place(one: Option<u32>, other: Option<u32>) -> bool
-    ensures { result ≡ is_same_place one other }
+pub fn is_same_row(one: Option<u32>, other: Option<u32>) -> bool
+    ensures { result ≡ is_same_row one other }
 {
     match (one, other) {
         (Some(one), Some(other)) => one == other,

@@ -11,7 +11,7 @@ ghost use Rattle.core_lines.specs.States.{Keeps, Takes, pair_at, rows_in, sides_
 use crate::cells::RowValue;
 use crate::growing::grow_flags;
 use crate::kinds::{CoreKind, Stop};
-use crate::pairs::{RowPair, is_same_place, number_of_text, pair_of};
+use crate::pairs::{RowPair, is_same_row, number_of_text, pair_of};
 use crate::parts::{RowPart, SidePart};
 use crate::set_names::{is_used, use_set};
 use smps_words::FileLine;
@@ -90,7 +90,7 @@ fn repeats(sides: &SidePart, parsed: &SideLine) -> bool
     match parsed.second {
         None => false,
         Some(second) => {
-            has_side(sides, second.row) || is_same_place(parsed.first.row, second.row)
+            has_side(sides, second.row) || is_same_row(parsed.first.row, second.row)
         }
     }
 }

@@ -1,6 +1,6 @@
-pub mod DigitLaws
+mod DigitLaws
 pub mod LimitLaws
 pub mod Powers
-pub mod ReadLaws
-pub mod StripLaws
-pub mod ValueLaws
+mod ReadLaws
+mod StripLaws
+mod ValueLaws

@@ -1,1 +1,1 @@
-pub mod PricedSums
+mod PricedSums

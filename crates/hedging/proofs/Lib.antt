@@ -1,6 +1,6 @@
-pub mod Fitting
-pub mod Growing
-pub mod Makings
-pub mod Reading
-pub mod Solvable
-pub mod Stages
+mod Fitting
+mod Growing
+mod Makings
+mod Reading
+mod Solvable
+mod Stages

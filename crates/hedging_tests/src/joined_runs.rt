@@ -1,7 +1,7 @@
 //! The run of three texts.
 
 ghost use Rattle.std.specs.Prelude.{pos, ◌≤ℤ◌};
-ghost use Rattle.sp_model.specs.Facts.{OptionFacts};
+ghost use Rattle.sp_model.specs.RunFacts.{OptionFacts};
 
 use smps_core::read_core;
 use smps_join::join;

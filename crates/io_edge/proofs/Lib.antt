@@ -1,4 +1,4 @@
-pub mod Counts
-pub mod NameOrder
-pub mod Stored
+mod Counts
+mod NameOrder
+mod Stored
 pub mod Writing

@@ -1,2 +1,2 @@
-pub mod Commons
-pub mod Framed
+mod Commons
+mod Framed

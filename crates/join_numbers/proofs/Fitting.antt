@@ -6,14 +6,14 @@ use Rattle.std.proofs.lemmas.Int.{clamps, fits_signed_from_abs, ints, unsigned_a
 use Rattle.std.proofs.Math.IntN.{*ℤ_comm}
 use Rattle.base_words.proofs.Comparisons.{above_from_test, below_from_test}
 use Rattle.base_words.proofs.Products.{times_one, times_order, zero_times}
-use Rattle.boxed_problem.specs.Facts.{limit_size, limits_size}
+use Rattle.boxed_problem.specs.BoxedFacts.{limit_size, limits_size}
 use Rattle.dec_core.specs.Scale.{scaled_to}
 use Rattle.dec_core.specs.declared.decimal.Decimal.{Decimal}
 use Rattle.smps_words.specs.declared.core_data.RowKind.{RowKind}
 use Rattle.smps_words.specs.declared.core_data.RowKind.TheVariants.{Less, Greater, Equal}
 use Rattle.join_words.specs.Limits.{limits_by, lower_limit, upper_limit}
 use Rattle.join_numbers.specs.Sizes.{IsFit, IsLarge, IsSize}
-use Rattle.join_numbers.specs.Unfit.{AreLarge}
+use Rattle.join_numbers.specs.UnfitNumbers.{AreLarge}
 
 -- a number that doesn't fit is large
 pub large_unfit : (z : ℤ) → (FitsSigned w128 z → ⊥) → IsLarge z

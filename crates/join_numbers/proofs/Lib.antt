@@ -1,2 +1,2 @@
-pub mod Fitting
-pub mod Turns
+mod Fitting
+mod Turns

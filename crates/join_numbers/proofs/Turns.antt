@@ -11,7 +11,7 @@ use Rattle.join_words.specs.Powers.{stays}
 use Rattle.join_words.specs.RunOf.{entry_of}
 use Rattle.join_words.specs.declared.frame.Frame.{Frame}
 use Rattle.join_numbers.specs.Turning.{with_change, with_entry}
-use Rattle.join_numbers.specs.Unfit.{ByUnfit, IsLargeChange, IsLargeEntry, IsSomeLarge}
+use Rattle.join_numbers.specs.UnfitNumbers.{ByUnfit, IsLargeChange, IsLargeEntry, IsSomeLarge}
 use Rattle.join_numbers.specs.declared.fault.MakeFault.{MakeFault}
 use Rattle.join_numbers.specs.declared.fault.MakeFault.TheVariants.{Unfit, Memory}
 

@@ -4,7 +4,7 @@ use Rattle.std.specs.List.{All}
 use Rattle.smps_words.specs.declared.core_file.Core.{Core}
 use Rattle.sp_model.specs.declared.program.Change.{Change}
 use Rattle.join_words.specs.declared.frame.Frame.{Frame}
-use Rattle.join_numbers.specs.Unfit.{IsSomeLarge}
+use Rattle.join_numbers.specs.UnfitNumbers.{IsSomeLarge}
 use Rattle.join_numbers.specs.declared.limits.Unfit.{Unfit}
 
 -- the change, if there is one, or a fault where it is large

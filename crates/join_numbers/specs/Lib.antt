@@ -1,9 +1,9 @@
 pub mod Sizes
-pub mod Unfit
+pub mod UnfitNumbers
 pub mod Limiting
 pub mod Turning
 pub mod Changing
-pub use Rattle.boxed_problem.specs.Facts
+pub use Rattle.boxed_problem.specs.BoxedFacts
 pub use Rattle.dec_core.specs.Scale
 pub use Rattle.join_words.specs.Limits
 pub use Rattle.join_words.specs.Parts

@@ -1,8 +1,8 @@
 -- Limits, or that one is large.
 use Rattle.std.specs.Prelude.{◌≡◌, ◌≤◌, ◌^◌, ℤ, Option, Some, None, Result, Ok, Err}
-use Rattle.boxed_problem.specs.Facts.{limit_size}
+use Rattle.boxed_problem.specs.BoxedFacts.{limit_size}
 use Rattle.boxed_problem.specs.declared.parts.Limits.{Limits}
-use Rattle.join_numbers.specs.Unfit.{AreLarge}
+use Rattle.join_numbers.specs.UnfitNumbers.{AreLarge}
 use Rattle.join_numbers.specs.declared.limits.Unfit.{Unfit}
 
 -- the limit, or a fault where it is large

@@ -6,7 +6,7 @@ ghost use Rattle.join_words.specs.Parts.{parts_of};
 ghost use Rattle.join_words.specs.RunOf.{cell_change, change_of, cost_change, limits_change};
 ghost use Rattle.join_numbers.specs.Changing.{IsChangeOf, IsFrameOf};
 ghost use Rattle.join_numbers.specs.Turning.{with_change};
-ghost use Rattle.join_numbers.specs.Unfit.{ByUnfit, IsLargeChange, IsSomeLarge};
+ghost use Rattle.join_numbers.specs.UnfitNumbers.{ByUnfit, IsLargeChange, IsSomeLarge};
 
 use crate::fault::MakeFault;
 use crate::limits::{Unfit, limits};

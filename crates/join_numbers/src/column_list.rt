@@ -3,7 +3,7 @@ ghost use Rattle.std.specs.List.{Any};
 ghost use Rattle.join_words.specs.Parts.{firsts_of, parts_of};
 ghost use Rattle.join_words.specs.RunOf.{column_of, column_with, columns_of, cost_of};
 ghost use Rattle.join_numbers.specs.Sizes.{IsFit};
-ghost use Rattle.join_numbers.specs.Unfit.{ByUnfit, IsLargeColumn};
+ghost use Rattle.join_numbers.specs.UnfitNumbers.{ByUnfit, IsLargeColumn};
 
 use crate::fault::MakeFault;
 use crate::sizes::scaled_number;

@@ -4,7 +4,7 @@ ghost use Rattle.join_words.specs.Parts.{parts_of};
 ghost use Rattle.join_words.specs.Powers.{stays};
 ghost use Rattle.join_words.specs.RunOf.{entries_of, entry_of};
 ghost use Rattle.join_numbers.specs.Turning.{with_entry};
-ghost use Rattle.join_numbers.specs.Unfit.{ByUnfit, IsLargeEntry};
+ghost use Rattle.join_numbers.specs.UnfitNumbers.{ByUnfit, IsLargeEntry};
 
 use crate::fault::MakeFault;
 use crate::sizes::scaled_number;

@@ -2,7 +2,7 @@ ghost use Rattle.std.specs.Prelude.{◌≤◌, ◌+ℤ◌, ◌-ℤ◌, pos, unsi
 ghost use Rattle.dec_core.specs.Scale.{scaled_to};
 ghost use Rattle.join_words.specs.Limits.{lower_limit, upper_limit};
 ghost use Rattle.join_numbers.specs.Limiting.{IsLimit, IsLimits};
-ghost use Rattle.join_numbers.specs.Unfit.{limits_with};
+ghost use Rattle.join_numbers.specs.UnfitNumbers.{limits_with};
 
 use crate::sizes::{above, below, scaled_number};
 use boxed_problem::Limits;

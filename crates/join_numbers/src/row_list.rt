@@ -2,7 +2,7 @@ ghost use Rattle.std.specs.Prelude.{◌≡◌, ◌++◌, ◌∷◌, [], ◌<◌,
 ghost use Rattle.std.specs.List.{All, Any};
 ghost use Rattle.join_words.specs.Parts.{firsts_of, parts_of};
 ghost use Rattle.join_words.specs.RunOf.{row_of, row_with, rows_of};
-ghost use Rattle.join_numbers.specs.Unfit.{ByUnfit, IsLargeRow};
+ghost use Rattle.join_numbers.specs.UnfitNumbers.{ByUnfit, IsLargeRow};
 
 use crate::fault::MakeFault;
 use crate::limits::limits;

@@ -6,7 +6,7 @@ ghost use Rattle.smps_stoch.specs.StochFacts.{IsPlace};
 ghost use Rattle.join_words.specs.Parts.{parts_of};
 ghost use Rattle.join_words.specs.RunOf.{scenario_of};
 ghost use Rattle.join_numbers.specs.Changing.{IsFrameOf};
-ghost use Rattle.join_numbers.specs.Unfit.{ByUnfit, IsLargeScenario};
+ghost use Rattle.join_numbers.specs.UnfitNumbers.{ByUnfit, IsLargeScenario};
 
 use crate::changes::changes;
 use crate::fault::MakeFault;

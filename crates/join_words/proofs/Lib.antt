@@ -1,1 +1,1 @@
-pub mod Tried
+mod Tried

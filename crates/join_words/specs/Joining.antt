@@ -7,7 +7,7 @@ use Rattle.sp_model.specs.declared.program.Options.{Options}
 use Rattle.sp_model.specs.declared.run.Run.{Run}
 use Rattle.join_words.specs.Parts.{IsFirstEarly}
 use Rattle.join_words.specs.Framing.{Source, joined}
-use Rattle.join_words.specs.RunOf.{has_many_listed, is_crowded, is_vast, is_wide, nonleaf_of, options_of, program_of, told_reach, total_of}
+use Rattle.join_words.specs.RunOf.{has_many_listed, is_crowded, is_too_large, is_wide, nonleaf_of, options_of, program_of, told_reach, total_of}
 use Rattle.join_words.specs.declared.fault.JoinFault.{JoinFault}
 use Rattle.join_words.specs.declared.fault.JoinFault.TheVariants.{Anticipates, TooManyScenarios, TooManyCells, Wide, Memory}
 
@@ -23,7 +23,7 @@ IsTimely source = IsFirstEarly source.firsts source.parts.entries None
 pub record IsJoined (source : Source) (options : Options) (run : Run) : Type 0 where
   pub timely : IsTimely source
   pub few_scenarios : is_crowded source ≡ false
-  pub few_cells : is_vast source ≡ false
+  pub few_cells : is_too_large source ≡ false
   pub narrow : is_wide source options ≡ false
   pub program : run.program ≡ program_of source
   pub options_are : run.options ≡ options_of source options
@@ -34,8 +34,8 @@ pub record IsJoined (source : Source) (options : Options) (run : Run) : Type 0 w
 abbrev pub IsRefused : Source → Options → JoinFault → Type 0
 IsRefused source options (Anticipates line) = IsFirstEarly source.firsts source.parts.entries (Some line)
 IsRefused source options TooManyScenarios = IsTimely source × (is_crowded source ≡ true)
-IsRefused source options TooManyCells = IsTimely source × (is_crowded source ≡ false) × (is_vast source ≡ true)
-IsRefused source options (Wide reach) = IsTimely source × (is_crowded source ≡ false) × (is_vast source ≡ false) × (is_wide source options ≡ true) × (reach ≡ told_reach source options)
+IsRefused source options TooManyCells = IsTimely source × (is_crowded source ≡ false) × (is_too_large source ≡ true)
+IsRefused source options (Wide reach) = IsTimely source × (is_crowded source ≡ false) × (is_too_large source ≡ false) × (is_wide source options ≡ true) × (reach ≡ told_reach source options)
 IsRefused source options Memory = IsTimely source × (is_crowded source ≡ false) × (has_many_listed source ≡ false)
 
 -- what the join answers

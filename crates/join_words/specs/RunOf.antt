@@ -172,8 +172,8 @@ abbrev pub has_many_changes : Source → Bool
 has_many_changes source = nat_lt MAX_CELLS (sum_by (λ (s : Scenario). length s.changes) (run_scenarios source))
 
 -- whether there are too many cells
-abbrev pub is_vast : Source → Bool
-is_vast source = has_many_listed source || has_many_changes source
+abbrev pub is_too_large : Source → Bool
+is_too_large source = has_many_listed source || has_many_changes source
 
 -- whether the reach is too great
 abbrev pub is_wide : Source → Options → Bool

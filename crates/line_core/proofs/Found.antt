@@ -3,7 +3,7 @@ use Rattle.std.proofs.Common.{Bool, true, ◌≡◌, ℕ, ◌+◌, ◌≤◌, Li
 use Rattle.std.specs.List.{slice_split}
 use Rattle.std.specs.Option.{option_to_list}
 use Rattle.std.proofs.lemmas.List.Splits.{length-slice_split}
-use Rattle.line_core.specs.Lines.{is_newline, without_return, read_line, read_parts, fault_or_lines, after_lines, IsFaultOf}
+use Rattle.line_core.specs.SplitLines.{is_newline, without_return, read_line, read_parts, fault_or_lines, after_lines, IsFaultOf}
 use Rattle.line_core.specs.declared.line_list.Line.{Line}
 use Rattle.line_core.specs.declared.line_list.LineFault.{LineFault}
 use Rattle.line_core.specs.declared.line_list.LineFault.TheVariants.{NotAscii, TooLong, Memory}

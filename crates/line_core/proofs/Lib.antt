@@ -1,6 +1,6 @@
-pub mod Parts
-pub mod Found
+mod Parts
+mod Found
 pub mod Numbered
-pub mod Runs
-pub mod Whole
-pub mod Turns
+mod Runs
+mod Whole
+mod Turns

@@ -10,7 +10,7 @@ use Rattle.std.proofs.lemmas.List.{get_or-drop}
 use Rattle.std.proofs.lemmas.List.Sums.{fails_before_first}
 use Rattle.std.proofs.lemmas.List.Quantifiers.{position-Some}
 use Rattle.line_core.specs.Fields.{is_blank, run_span, fields_at}
-use Rattle.line_core.specs.Runs.{IsRun, IsFieldOf, IsBefore}
+use Rattle.line_core.specs.Runs.{IsFieldAt, IsFieldOf, IsBefore}
 use Rattle.line_core.specs.declared.field_list.Span.{Span}
 use Rattle.line_core.proofs.Parts.{fields_turn, fields_end}
 
@@ -30,18 +30,18 @@ not_both : {X : Type 0} (b : Bool) → b ≡ true → b ≡ false → X
 not_both b t f = absurd (true≢false (sym t ∙ f))
 
 -- a stretch with a byte is a run
-run_of : (text : List ℕ) (at stop : ℕ) → IsStretch text at stop → at < stop → IsRun text at stop
+run_of : (text : List ℕ) (at stop : ℕ) → IsStretch text at stop → at < stop → IsFieldAt text at stop
 run_of text at stop s h = record { some = h; within = s.within; unbroken = s.solid; begins = s.before; ends = s.after }
 
 -- a run that begins in a stretch begins and ends with it
-begins_with : (text : List ℕ) (at stop first last : ℕ) → IsStretch text at stop → IsRun text first last → at ≤ first → first ≤ stop → first ≡ at
+begins_with : (text : List ℕ) (at stop first last : ℕ) → IsStretch text at stop → IsFieldAt text first last → at ≤ first → first ≤ stop → first ≡ at
 begins_with text at stop first last s r low high =
     elim (cases_lt at first) [
       | inl h ↦ not_both (is_blank (get_or text (first - 1) 0)) (r.begins (first - 1) (omega arith)) (s.solid (first - 1) (omega arith) (omega arith))
       | inr h ↦ omega arith
     ]
 
-ends_with : (text : List ℕ) (at stop first last : ℕ) → IsStretch text at stop → IsRun text first last → at ≤ first → first ≤ stop → last ≡ stop
+ends_with : (text : List ℕ) (at stop first last : ℕ) → IsStretch text at stop → IsFieldAt text first last → at ≤ first → first ≤ stop → last ≡ stop
 ends_with text at stop first last s r low high =
     elim (cases_lt last stop) [
       | inl h ↦ not_both (is_blank (get_or text last 0)) (r.ends (omega (arith, s.within))) (s.solid last (omega (arith, r.some)) h)
@@ -61,7 +61,7 @@ IsFieldFrom start at text span = (start + at ≤ span.start) × IsFieldOf start 
 -- what is said of the fields from a place of the text on
 pub record AreFields (start at : ℕ) (text : List ℕ) (spans : List Span) : Type 0 where
   pub each : All (IsFieldFrom start at text) spans
-  pub every : (first last : ℕ) → at ≤ first → IsRun text first last → Contains spans (the_span (start + first) (start + last))
+  pub every : (first last : ℕ) → at ≤ first → IsFieldAt text first last → Contains spans (the_span (start + first) (start + last))
   pub rise : AllPairs IsBefore spans
 
 same_span : (a b c d : ℕ) → a ≡ c → b ≡ d → the_span a b ≡ the_span c d
@@ -84,11 +84,11 @@ take_one start at n text rest s f =
     let one = the_span (start + at) (start + at + suc n) in
     let first_is : at ≡ start + at - start = omega arith in
     let last_is : at + suc n ≡ start + at + suc n - start = omega arith in
-    let run : IsRun text at (at + suc n) = run_of text at (at + suc n) s (omega arith) in
+    let run : IsFieldAt text at (at + suc n) = run_of text at (at + suc n) s (omega arith) in
     let low : start + at ≤ start + at = omega arith in
     let here : start ≤ start + at = omega arith in
     record {
-      each = All-cons (IsFieldFrom start at text) one rest (low, (here, subst (λ a. IsRun text a (start + at + suc n - start)) first_is (subst (λ b. IsRun text at b) last_is run)))
+      each = All-cons (IsFieldFrom start at text) one rest (low, (here, subst (λ a. IsFieldAt text a (start + at + suc n - start)) first_is (subst (λ b. IsFieldAt text at b) last_is run)))
           (All-weaker (IsFieldFrom start (at + (suc n + 1)) text) (IsFieldFrom start at text) (λ span h. (omega (arith, h.0), h.1)) rest f.each);
       every = λ first last low r. elim (cases_lt (at + suc n) first) [
         | inl h ↦ Contains-append_right (one ∷ []) rest (the_span (start + first) (start + last)) (f.every first last (omega arith) r)

@@ -1,6 +1,6 @@
 -- a turn of the loop over the lines of a file, and its end: what is read, and when memory may be wanted
 use Rattle.std.proofs.Common.{sym, ◌≡◌, ℕ, ◌+◌, ◌≤◌, true, List, [], ◌∷◌, length, take, drop, position, Option, Some, None, Result, Ok, Err, refl, ap, ◌∙◌}
-use Rattle.line_core.specs.Lines.{after_lines, asks_memory, has_line, is_line, is_newline, lines_of, may_want_memory, read_line, without_return, IsAdded, IsFaultOf}
+use Rattle.line_core.specs.SplitLines.{after_lines, asks_memory, has_line, is_line, is_newline, lines_of, may_want_memory, read_line, without_return, IsAdded, IsFaultOf}
 use Rattle.line_core.specs.declared.line_list.Line.{Line}
 use Rattle.line_core.specs.declared.line_list.LineFault.{LineFault}
 use Rattle.line_core.proofs.Found.{end_fault, fault_passes, lines_end, lines_fault, lines_turn, reads_from, reads_none, reads_some, rest_of}

@@ -9,7 +9,7 @@ use Rattle.std.proofs.lemmas.List.Elements.{All-nil, All-cons, All-weaker}
 use Rattle.std.proofs.lemmas.List.Kept.{AllPairs-cons}
 use Rattle.std.proofs.lemmas.List.Splits.{slice_split-cons_yes, slice_split-cons_no}
 use Rattle.line_core.specs.Fields.{is_blank, part_spans, fields_at, IsSpanOf}
-use Rattle.line_core.specs.Lines.{is_newline, is_comment, is_unindented, without_return, read_line, fault_or_lines, after_lines, lines_of, Gives, IsAbove, IsLineOf}
+use Rattle.line_core.specs.SplitLines.{is_newline, is_comment, is_unindented, without_return, read_line, fault_or_lines, after_lines, lines_of, Gives, IsAbove, IsLineOf}
 use Rattle.line_core.specs.Runs.{IsFieldOf}
 use Rattle.line_core.specs.declared.line_list.Line.{Line}
 use Rattle.line_core.specs.declared.line_list.LineFault.{LineFault}

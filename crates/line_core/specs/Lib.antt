@@ -1,4 +1,4 @@
 pub mod Fields
-pub mod Lines
+pub mod SplitLines
 pub mod Names
 pub mod Runs

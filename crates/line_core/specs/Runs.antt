@@ -5,7 +5,7 @@ use Rattle.line_core.specs.Fields.{is_blank}
 use Rattle.line_core.specs.declared.field_list.Span.{Span}
 
 -- a longest run of bytes that aren't blanks, from one place of a text up to another
-pub record IsRun (text : List ℕ) (first stop : ℕ) : Type 0 where
+pub record IsFieldAt (text : List ℕ) (first stop : ℕ) : Type 0 where
   -- it has a byte, and lies in the text
   pub some : first < stop
   pub within : stop ≤ length text
@@ -17,7 +17,7 @@ pub record IsRun (text : List ℕ) (first stop : ℕ) : Type 0 where
 
 -- the span of a longest run in a text that begins at a place of its file
 abbrev pub IsFieldOf : ℕ → List ℕ → Span → Type 0
-IsFieldOf start text span = (start ≤ span.start) × IsRun text (span.start - start) (span.end - start)
+IsFieldOf start text span = (start ≤ span.start) × IsFieldAt text (span.start - start) (span.end - start)
 
 -- a span that ends before another begins
 abbrev pub IsBefore : Span → Span → Type 0

@@ -1,7 +1,7 @@
 ghost use Rattle.std.specs.Prelude.{◌≡◌, ◌+◌, ◌^◌, ◌++◌, ◌<◌, ◌≤◌, true, length, take, drop, position, Err, IfErr, IfOk, IfSome, OnErr, OnOk, is_some};
 ghost use Rattle.std.specs.List.{All, AllPairs};
 ghost use Rattle.std.specs.Option.{option_to_list};
-ghost use Rattle.line_core.specs.Lines.{asks_memory, field_text, is_newline, lines_of, may_want_memory, read_line, without_return, Gives, GivesLine, IsAbove, IsAdded, IsFaultOf, IsLineFault, IsLineOf};
+ghost use Rattle.line_core.specs.SplitLines.{asks_memory, field_text, is_newline, lines_of, may_want_memory, read_line, without_return, Gives, GivesLine, IsAbove, IsAdded, IsFaultOf, IsLineFault, IsLineOf};
 ghost use Rattle.line_core.specs.declared.line_list.LineFault.TheVariants.{Memory};
 
 use crate::field_list::{Span, fields};

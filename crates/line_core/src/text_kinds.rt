@@ -1,7 +1,7 @@
 ghost use Rattle.std.specs.Prelude.{◌≡◌, ◌<◌, length, position, IfSome};
 ghost use Rattle.std.specs.List.{list_all};
 ghost use Rattle.line_core.specs.Fields.{is_blank};
-ghost use Rattle.line_core.specs.Lines.{begins_with_star, ends_with_return, is_comment, is_unindented, is_newline, is_plain, without_return};
+ghost use Rattle.line_core.specs.SplitLines.{begins_with_star, ends_with_return, is_comment, is_unindented, is_newline, is_plain, without_return};
 
 /// The place of the first newline.
 pub fn next_newline(text: &[u8]) -> Option<usize>

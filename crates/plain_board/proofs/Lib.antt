@@ -1,8 +1,8 @@
-pub mod Answering
-pub mod Boards
-pub mod Fewness
-pub mod Opening
-pub mod PlainCalls
-pub mod PlainSteps
-pub mod Roominess
-pub mod Shown
+mod Answering
+mod Boards
+mod Fewness
+mod Opening
+mod PlainCalls
+mod PlainSteps
+mod Roominess
+mod Shown

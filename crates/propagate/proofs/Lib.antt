@@ -1,9 +1,9 @@
 pub mod Backing
-pub mod ClipLaws
-pub mod Mixed
+mod ClipLaws
+mod Mixed
 pub mod RangeLaws
-pub mod RangingLaws
+mod RangingLaws
 pub mod Setting
-pub mod SpanLaws
+mod SpanLaws
 pub mod TightLaws
 pub mod Widening

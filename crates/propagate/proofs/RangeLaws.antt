@@ -5,7 +5,7 @@ use Rattle.std.proofs.lemmas.List.Sums.{sum_by-cons}
 use Rattle.std.proofs.Math.Nat.{mul-le-mul_left}
 use Rattle.std.specs.Int.{int_max, int_min}
 use Rattle.std.specs.List.{fold, sum_by}
-use Rattle.boxed_problem.specs.Facts.{entry_size, limits_at}
+use Rattle.boxed_problem.specs.BoxedFacts.{entry_size, limits_at}
 use Rattle.propagate.specs.Ranges.{high_activity, high_part, low_activity, low_part, misses, misses_one}
 use Rattle.boxed_problem.specs.Rows.{activity, activity_part, is_above, is_below, meets, meets_rows}
 use Rattle.boxed_problem.specs.Sides.{Within, reach, side_at}

@@ -5,7 +5,7 @@ use Rattle.std.proofs.lemmas.List.Sums.{get_or-le-sum_by}
 use Rattle.std.proofs.Math.Nat.{mul-le-mul_left}
 use Rattle.std.specs.Int.{w128, int_max, int_min}
 use Rattle.std.specs.List.{All, sum_by}
-use Rattle.boxed_problem.specs.Facts.{entry_at, entry_size, no_entry, row_size}
+use Rattle.boxed_problem.specs.BoxedFacts.{entry_at, entry_size, no_entry, row_size}
 use Rattle.propagate.specs.Ranges.{high_part, low_part}
 use Rattle.boxed_problem.specs.Sides.{reach, side_at}
 use Rattle.boxed_problem.specs.declared.parts.Entry.{Entry}

@@ -1,6 +1,6 @@
 -- Entries by column and by row.
 use Rattle.std.proofs.Common.{arith, refl, ap, sym, subst, inl, inr, ◌∙◌, ◌≡◌, ◌⊎◌, ℕ, zero, suc, ◌+◌, ◌-◌, ◌<◌, ◌≤◌, Bool, true, false, nat_le, nat_lt, List, [], ◌∷◌, ◌++◌, length, slice_index_or, slice_set}
-use Rattle.boxed_problem.specs.Facts.{ComesBefore, entry_at}
+use Rattle.boxed_problem.specs.BoxedFacts.{ComesBefore, entry_at}
 use Rattle.boxed_problem.specs.declared.parts.Entry.{Entry}
 use Rattle.propagate.specs.Spans.{IsBorder, IsFirst, place_at}
 use Rattle.propagate.proofs.Setting.{same_or_not}

@@ -5,7 +5,7 @@ use Rattle.std.proofs.Math.Nat.{mul-le-mul_left}
 use Rattle.std.specs.Int.{w128}
 use Rattle.std.specs.List.{sum_by}
 use Rattle.boxed_problem.specs.Data.{Problem}
-use Rattle.boxed_problem.specs.Facts.{entry_at, entry_size, limit_size, limits_at, limits_size, no_entry}
+use Rattle.boxed_problem.specs.BoxedFacts.{entry_at, entry_size, limit_size, limits_at, limits_size, no_entry}
 use Rattle.boxed_problem.specs.Points.{InBox}
 use Rattle.propagate.specs.Ranges.{high_activity, high_part, low_activity, low_part, misses}
 use Rattle.boxed_problem.specs.Rows.{activity, activity_part, is_above, is_below, meets_rows}

@@ -7,7 +7,7 @@ pub mod Tightening
 pub mod Trails
 pub use Rattle.base_words.specs.Sums
 pub use Rattle.boxed_problem.specs.Data
-pub use Rattle.boxed_problem.specs.Facts
+pub use Rattle.boxed_problem.specs.BoxedFacts
 pub use Rattle.boxed_problem.specs.Optimum
 pub use Rattle.boxed_problem.specs.Points
 pub use Rattle.boxed_problem.specs.Rows

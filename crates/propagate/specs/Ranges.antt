@@ -2,7 +2,7 @@
 use Rattle.std.specs.Prelude.{ℕ, zero, suc, ◌==◌, Bool, false, not, ◌&&◌, ◌||◌, List, ℤ, pos, ◌+ℤ◌, ◌*ℤ◌, if◌then◌else◌}
 use Rattle.std.specs.Int.{int_max, int_min}
 use Rattle.std.specs.List.{fold}
-use Rattle.boxed_problem.specs.Facts.{limits_at}
+use Rattle.boxed_problem.specs.BoxedFacts.{limits_at}
 use Rattle.boxed_problem.specs.Rows.{is_above, is_below}
 use Rattle.boxed_problem.specs.Sides.{side_at}
 use Rattle.boxed_problem.specs.declared.parts.Side.{Side}

@@ -1,7 +1,7 @@
 -- sides narrowed by the limits of rows
 use Rattle.std.specs.Prelude.{◌≡◌, ℕ, ◌*◌, ◌^◌, ◌<◌, ◌≤◌, true, false, unsigned_abs, List, length, ℤ, pos, ◌≤ℤ◌, ◌<ℤ◌, ◌-ℤ◌, ◌*ℤ◌}
 use Rattle.boxed_problem.specs.Data.{Problem}
-use Rattle.boxed_problem.specs.Facts.{entry_at, limits_at, limits_size}
+use Rattle.boxed_problem.specs.BoxedFacts.{entry_at, limits_at, limits_size}
 use Rattle.boxed_problem.specs.Optimum.{meets_all}
 use Rattle.boxed_problem.specs.Points.{InBox}
 use Rattle.propagate.specs.Ranges.{high_activity, low_activity, misses}

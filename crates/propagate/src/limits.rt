@@ -1,5 +1,5 @@
 ghost use Rattle.std.specs.Prelude.{◌<◌, length};
-ghost use Rattle.boxed_problem.specs.Facts.{entry_at};
+ghost use Rattle.boxed_problem.specs.BoxedFacts.{entry_at};
 ghost use Rattle.propagate.specs.Tightening.{IsCut, IsReady};
 
 use crate::clipping::{cut_above, cut_below};

@@ -1,6 +1,6 @@
 ghost use Rattle.std.specs.Prelude.{◌≡◌, ◌<◌, ◌≤◌, ◌^◌, length};
 ghost use Rattle.std.specs.List.{All, sum_by};
-ghost use Rattle.boxed_problem.specs.Facts.{entry_size};
+ghost use Rattle.boxed_problem.specs.BoxedFacts.{entry_size};
 ghost use Rattle.propagate.specs.Ranges.{high_activity, high_part, low_activity, low_part, misses};
 
 use crate::range::Range;

@@ -1,6 +1,6 @@
 ghost use Rattle.std.specs.Prelude.{◌≡◌, ◌<◌, IfErr, length};
 ghost use Rattle.boxed_problem.specs.Data.{problem_of};
-ghost use Rattle.boxed_problem.specs.Facts.{entry_at};
+ghost use Rattle.boxed_problem.specs.BoxedFacts.{entry_at};
 ghost use Rattle.boxed_problem.specs.Sides.{Within};
 ghost use Rattle.propagate.specs.Tightening.{HoldsNone, HoldsSame, IsCut, IsReady, MissesRow};
 

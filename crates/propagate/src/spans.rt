@@ -1,7 +1,7 @@
 ghost use Rattle.std.specs.Prelude.{◌≡◌, ℕ, ◌+◌, ◌<◌, ◌≤◌, IfOk, length};
 ghost use Rattle.std.specs.List.{All};
 ghost use Rattle.boxed_problem.specs.Data.{problem_of};
-ghost use Rattle.boxed_problem.specs.Facts.{ComesBefore, entry_at};
+ghost use Rattle.boxed_problem.specs.BoxedFacts.{ComesBefore, entry_at};
 ghost use Rattle.propagate.specs.SparseParts.{IsOf};
 ghost use Rattle.propagate.specs.Spans.{IsBorder, IsFirst, place_at};
 

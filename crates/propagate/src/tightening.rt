@@ -1,5 +1,5 @@
 ghost use Rattle.std.specs.Prelude.{◌≡◌, ◌<◌, true, false, IfOk, OnOk, OnErr, length, slice_set};
-ghost use Rattle.boxed_problem.specs.Facts.{entry_at, limits_at};
+ghost use Rattle.boxed_problem.specs.BoxedFacts.{entry_at, limits_at};
 ghost use Rattle.propagate.specs.Ranges.{high_activity, low_activity, misses};
 ghost use Rattle.boxed_problem.specs.Sides.{side_at};
 ghost use Rattle.propagate.specs.Ranged.{IsInside};

@@ -10,7 +10,7 @@ use Rattle.base_words.specs.Sums.{number_at, size_below}
 use Rattle.base_words.proofs.Magnitudes.{abs-add}
 use Rattle.base_words.proofs.SumBounds.{size_below-le}
 use Rattle.boxed_problem.specs.Data.{Problem, problem_of}
-use Rattle.boxed_problem.specs.Facts.{column_size, IsBoxed, value_size}
+use Rattle.boxed_problem.specs.BoxedFacts.{column_size, IsBoxed, value_size}
 use Rattle.boxed_problem.specs.declared.problem.Boxed.{Boxed}
 use Rattle.sp_model.specs.Changes.{side_of, sides}
 use Rattle.run_calls.specs.MultiplierTests.{AreSized}

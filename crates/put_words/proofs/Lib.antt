@@ -1,10 +1,10 @@
 pub mod Bounded
-pub mod Bundles
-pub mod Cells
-pub mod Floors
+mod Bundles
+mod Cells
+mod Floors
 pub mod Following
 pub mod Inside
-pub mod Moves
+mod Moves
 pub mod Points
 pub mod Pulls
 pub mod Rises

@@ -14,7 +14,7 @@ use Rattle.base_words.proofs.Magnitudes.{abs-add}
 use Rattle.base_words.proofs.Products.{times_order}
 use Rattle.base_words.proofs.SumBounds.{size_below-part}
 use Rattle.boxed_problem.specs.Data.{Problem, problem_of}
-use Rattle.boxed_problem.specs.Facts.{column_size, IsBoxed, value_size}
+use Rattle.boxed_problem.specs.BoxedFacts.{column_size, IsBoxed, value_size}
 use Rattle.tree_core.specs.Nodes.{IsNode, no_node}
 use Rattle.boxed_problem.specs.declared.problem.Boxed.{Boxed}
 use Rattle.sp_model.specs.Changes.{side_of, sides}

@@ -11,7 +11,7 @@ use Rattle.base_words.specs.Sums.{number_at, size_below, sum_below}
 use Rattle.base_words.proofs.Magnitudes.{abs-add}
 use Rattle.base_words.proofs.SumBounds.{size_below-le, size_below-part, sum_below-abs}
 use Rattle.boxed_problem.specs.Data.{Problem}
-use Rattle.boxed_problem.specs.Facts.{column_size, value_size}
+use Rattle.boxed_problem.specs.BoxedFacts.{column_size, value_size}
 use Rattle.boxed_problem.specs.Objective.{value_of, value_part}
 use Rattle.boxed_problem.specs.Optimum.{best_of, IsBest}
 use Rattle.boxed_problem.specs.Points.{InBox}

@@ -7,7 +7,7 @@ pub use Rattle.base_words.specs.Gathered
 pub use Rattle.base_words.specs.ListSums
 pub use Rattle.base_words.specs.Sums
 pub use Rattle.boxed_problem.specs.Data
-pub use Rattle.boxed_problem.specs.Facts
+pub use Rattle.boxed_problem.specs.BoxedFacts
 pub use Rattle.boxed_problem.specs.Optimum
 pub use Rattle.boxed_problem.specs.Sides
 pub use Rattle.run_calls.specs.MultiplierTests

@@ -1,6 +1,6 @@
 ghost use Rattle.std.specs.Prelude.{◌≡◌};
 ghost use Rattle.boxed_problem.specs.Data.{problem_of};
-ghost use Rattle.boxed_problem.specs.Facts.{IsBoxed};
+ghost use Rattle.boxed_problem.specs.BoxedFacts.{IsBoxed};
 ghost use Rattle.put_words.specs.Objectives.{with_line, with_objective};
 
 use boxed_problem::Boxed;

@@ -5,11 +5,11 @@ use Rattle.std.specs.List.{AllByRecursion, AllPairs, fold, sum_by}
 use Rattle.std.proofs.lemmas.List.Elements.{recursion_from_All}
 use Rattle.std.proofs.lemmas.List.Sums.{sum_by-cons}
 use Rattle.base_words.proofs.Comparisons.{both_left, both_right}
-use Rattle.boxed_problem.specs.Facts.{entry_size}
+use Rattle.boxed_problem.specs.BoxedFacts.{entry_size}
 use Rattle.boxed_problem.specs.Sides.{reach, side_at}
 use Rattle.boxed_problem.specs.declared.parts.Entry.{Entry}
 use Rattle.sp_model.specs.Changes.{Data, is_at, is_before, put_entry, sides, with_change}
-use Rattle.sp_model.specs.Facts.{is_same_place}
+use Rattle.sp_model.specs.RunFacts.{is_same_place}
 use Rattle.sp_model.specs.Values.{is_cell}
 use Rattle.sp_model.specs.declared.program.Change.{Change}
 use Rattle.sp_model.specs.declared.program.Change.TheVariants.{Cost, Cell, Limits}

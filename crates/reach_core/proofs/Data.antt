@@ -5,7 +5,7 @@ use Rattle.std.proofs.lemmas.List.{get_or-map, length-map}
 use Rattle.std.proofs.lemmas.List.FromFn.{length-map-range_with_len}
 use Rattle.std.proofs.lemmas.List.Sums.{sum_by_more}
 use Rattle.base_words.specs.Sums.{number_at}
-use Rattle.boxed_problem.specs.Facts.{entry_size, limits_at, limits_size, row_size}
+use Rattle.boxed_problem.specs.BoxedFacts.{entry_size, limits_at, limits_size, row_size}
 use Rattle.boxed_problem.specs.Sides.{reach, side_at}
 use Rattle.boxed_problem.specs.declared.parts.Entry.{Entry}
 use Rattle.boxed_problem.specs.declared.parts.Limits as boxed

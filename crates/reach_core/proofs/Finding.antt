@@ -1,7 +1,7 @@
 -- The entry of a row and a column among entries in order.
 use Rattle.std.proofs.Common.{arith, refl, ap, ◌∙◌, ◌≡◌, ℕ, zero, suc, ◌<◌, ◌≤◌, ◌==◌, nat_lt, Bool, true, false, ◌&&◌, List, [], ◌∷◌, length, get_or, if◌then◌else◌, ℤ, pos}
 use Rattle.std.specs.Prelude.{find, option_map, unwrap_or, Option, Some, None}
-use Rattle.boxed_problem.specs.Facts.{ComesBefore, no_entry}
+use Rattle.boxed_problem.specs.BoxedFacts.{ComesBefore, no_entry}
 use Rattle.boxed_problem.specs.declared.parts.Entry.{Entry}
 use Rattle.sp_model.specs.Changes.{is_at, is_before}
 use Rattle.sp_model.specs.Values.{is_cell}

@@ -1,7 +1,7 @@
-pub mod Balance
-pub mod Capped
-pub mod Finding
-pub mod ScenarioSums
+mod Balance
+mod Capped
+mod Finding
+mod ScenarioSums
 pub mod Within
-pub mod Costs
-pub mod Data
+mod Costs
+mod Data

@@ -7,12 +7,12 @@ use Rattle.std.proofs.lemmas.List.Elements.{recursion_from_All}
 use Rattle.std.proofs.lemmas.List.Sums.{sum_by-cons}
 use Rattle.base_words.specs.Sums.{number_at}
 use Rattle.base_words.proofs.Comparisons.{both_left}
-use Rattle.boxed_problem.specs.Facts.{entry_size, limits_at, limits_size, no_limits, row_size}
+use Rattle.boxed_problem.specs.BoxedFacts.{entry_size, limits_at, limits_size, no_limits, row_size}
 use Rattle.boxed_problem.specs.Sides.{reach, side_at}
 use Rattle.boxed_problem.specs.declared.parts.Limits as boxed
 use Rattle.capped_num.specs.Capped.{capped}
 use Rattle.sp_model.specs.Changes.{Data, core_data, data_of, limits_of, sides, with_change}
-use Rattle.sp_model.specs.Facts.{IsScenario, is_change, is_same_place}
+use Rattle.sp_model.specs.RunFacts.{IsScenario, is_change, is_same_place}
 use Rattle.sp_model.specs.Reaching.{box_reach, data_reach, greatest}
 use Rattle.sp_model.specs.Values.{cell_in}
 use Rattle.sp_model.specs.declared.program.Change.{Change}

@@ -9,11 +9,11 @@ use Rattle.std.proofs.lemmas.List.Sums.{sum_by-cons}
 use Rattle.std.proofs.Math.Nat.{mul-le-mul}
 use Rattle.base_words.specs.Sums.{number_at, size_below}
 use Rattle.base_words.proofs.SumBounds.{size_below-part}
-use Rattle.boxed_problem.specs.Facts.{entry_size, limits_at, limits_size, no_limits, row_size}
+use Rattle.boxed_problem.specs.BoxedFacts.{entry_size, limits_at, limits_size, no_limits, row_size}
 use Rattle.boxed_problem.specs.Sides.{reach, side_at}
 use Rattle.boxed_problem.specs.declared.parts.Entry.{Entry}
 use Rattle.sp_model.specs.Changes.{Data, all_data, core_data, data_of, limits_of, sides}
-use Rattle.sp_model.specs.Facts.{are_limits, change_reach, change_value, is_change}
+use Rattle.sp_model.specs.RunFacts.{are_limits, change_reach, change_value, is_change}
 use Rattle.sp_model.specs.Problems.{no_scenario}
 use Rattle.sp_model.specs.Reaching.{box_reach, cost_reach, data_reach, greatest, hedge_reach, line_reach, raw_reach, rows_reach, run_reach}
 use Rattle.sp_model.specs.Values.{Has, cell_in, is_cell}

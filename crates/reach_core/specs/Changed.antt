@@ -1,6 +1,6 @@
 -- What one change does to the greatest costs, and to the sums and the limits by row.
 use Rattle.std.specs.Prelude.{ℕ, ◌*◌, ◌-◌, List, max, slice_index, slice_set, unsigned_abs}
-use Rattle.boxed_problem.specs.Facts.{limits_size}
+use Rattle.boxed_problem.specs.BoxedFacts.{limits_size}
 use Rattle.capped_num.specs.Capped.{capped}
 use Rattle.sp_model.specs.Changes.{core_data}
 use Rattle.sp_model.specs.Reaching.{box_reach}

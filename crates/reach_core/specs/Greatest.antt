@@ -2,7 +2,7 @@
 use Rattle.std.specs.Prelude.{◌≡◌, ℕ, ◌+◌, ◌*◌, List, length, map, slice_index, slice_set, unsigned_abs}
 use Rattle.std.specs.List.{range_with_len, sum_by}
 use Rattle.base_words.specs.Sums.{number_at}
-use Rattle.boxed_problem.specs.Facts.{entry_size}
+use Rattle.boxed_problem.specs.BoxedFacts.{entry_size}
 use Rattle.boxed_problem.specs.declared.parts.Entry.{Entry}
 use Rattle.capped_num.specs.Capped.{capped}
 use Rattle.sp_model.specs.Changes.{Data, sides}

@@ -4,7 +4,9 @@ pub mod Places
 pub mod Rows
 pub mod Within
 pub use Rattle.base_words.specs.Sums
+pub use Rattle.boxed_problem.specs.BoxedFacts
 pub use Rattle.capped_num.specs.Capped
 pub use Rattle.sp_model.specs.Changes
 pub use Rattle.sp_model.specs.Reaching
+pub use Rattle.sp_model.specs.RunFacts
 pub use Rattle.sp_model.specs.Values

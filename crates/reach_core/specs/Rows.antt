@@ -1,6 +1,6 @@
 -- The rows of the core.
 use Rattle.std.specs.Prelude.{◌≡◌, map}
-use Rattle.boxed_problem.specs.Facts.{limits_size}
+use Rattle.boxed_problem.specs.BoxedFacts.{limits_size}
 use Rattle.sp_model.specs.Changes.{limits_of}
 use Rattle.sp_model.specs.declared.program.Program.{Program}
 use Rattle.sp_model.specs.declared.program.Row.{Row}

@@ -1,10 +1,10 @@
 -- The numbers of a program, none of which is above its reach.
 use Rattle.std.specs.Prelude.{ℕ, ◌≤◌, ℤ, pos, ◌≤ℤ◌, unsigned_abs}
 use Rattle.std.specs.List.{All}
-use Rattle.boxed_problem.specs.Facts.{limits_size}
+use Rattle.boxed_problem.specs.BoxedFacts.{limits_size}
 use Rattle.boxed_problem.specs.declared.parts.Entry.{Entry}
 use Rattle.sp_model.specs.Changes.{limits_of}
-use Rattle.sp_model.specs.Facts.{IdleFacts, IsScenario}
+use Rattle.sp_model.specs.RunFacts.{IdleFacts, IsScenario}
 use Rattle.sp_model.specs.declared.program.Change.{Change}
 use Rattle.sp_model.specs.declared.program.Change.TheVariants as change
 use Rattle.sp_model.specs.declared.program.Column.{Column}

@@ -1,7 +1,7 @@
 ghost use Rattle.std.specs.Prelude.{◌≡◌, ◌++◌, ◌∷◌, [], List, true, IfOk, OnOk, length, map, unsigned_abs};
 ghost use Rattle.std.specs.List.{All, fold};
 ghost use Rattle.sp_model.specs.Changes.{Data, all_data, core_data, data_of};
-ghost use Rattle.sp_model.specs.Facts.{IsScenario, is_change};
+ghost use Rattle.sp_model.specs.RunFacts.{IsScenario, is_change};
 ghost use Rattle.sp_model.specs.declared.program.Column.{Column};
 ghost use Rattle.reach_core.specs.Changed.{raised_by};
 ghost use Rattle.reach_core.specs.Greatest.{AreGreatest};

@@ -3,7 +3,7 @@ ghost use Rattle.std.specs.List.{All};
 ghost use Rattle.base_words.specs.Sums.{size_below};
 ghost use Rattle.capped_num.specs.Capped.{capped};
 ghost use Rattle.sp_model.specs.Changes.{all_data};
-ghost use Rattle.sp_model.specs.Facts.{IsScenario};
+ghost use Rattle.sp_model.specs.RunFacts.{IsScenario};
 ghost use Rattle.sp_model.specs.Reaching.{box_reach, hedge_reach, line_reach, run_reach};
 ghost use Rattle.reach_core.specs.Greatest.{tops_of};
 ghost use Rattle.reach_core.specs.Places.{AreOrdered, AreThere};

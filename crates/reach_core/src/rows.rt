@@ -1,6 +1,6 @@
 ghost use Rattle.std.specs.Prelude.{◌≡◌, ◌+◌, ◌*◌, ◌<◌, IfOk, length, map, slice_index, unsigned_abs};
 ghost use Rattle.std.specs.List.{All, range_with_len};
-ghost use Rattle.boxed_problem.specs.Facts.{limits_size};
+ghost use Rattle.boxed_problem.specs.BoxedFacts.{limits_size};
 ghost use Rattle.boxed_problem.specs.declared.parts.Entry.{Entry};
 ghost use Rattle.capped_num.specs.Capped.{capped};
 ghost use Rattle.sp_model.specs.Changes.{limits_of};

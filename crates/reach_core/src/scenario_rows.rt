@@ -2,7 +2,7 @@ ghost use Rattle.std.specs.Prelude.{◌≡◌, ◌<◌, ◌≤◌, ◌^◌, IfOk
 ghost use Rattle.std.specs.List.{All, fold};
 ghost use Rattle.capped_num.specs.Capped.{capped};
 ghost use Rattle.sp_model.specs.Changes.{core_data, data_of};
-ghost use Rattle.sp_model.specs.Facts.{IsScenario, is_change};
+ghost use Rattle.sp_model.specs.RunFacts.{IsScenario, is_change};
 ghost use Rattle.sp_model.specs.Reaching.{data_reach};
 ghost use Rattle.reach_core.specs.Changed.{given_by, limited_by, taken_by};
 ghost use Rattle.reach_core.specs.Places.{AreOrdered};

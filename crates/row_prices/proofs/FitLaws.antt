@@ -2,7 +2,7 @@
 use Rattle.std.proofs.Common.{arith, ap, ◌≡◌, ℕ, ◌+◌, ◌*◌, length, unsigned_abs}
 use Rattle.std.specs.List.{sum_by}
 use Rattle.boxed_problem.specs.Data.{Problem}
-use Rattle.boxed_problem.specs.Facts.{value_size}
+use Rattle.boxed_problem.specs.BoxedFacts.{value_size}
 use Rattle.boxed_problem.specs.PriceFit.{price_size}
 use Rattle.base_words.specs.Sums.{size_below}
 use Rattle.boxed_problem.specs.declared.parts.Prices.{Prices}

@@ -1,7 +1,7 @@
 ghost use Rattle.std.specs.Prelude.{◌≡◌, ◌^◌, ◌≤◌, ℕ, ◌<◌, IfSome, IsTrue, length};
 ghost use Rattle.std.specs.List.{sum_by};
 ghost use Rattle.boxed_problem.specs.Data.{problem_of};
-ghost use Rattle.boxed_problem.specs.Facts.{limits_at, value_size};
+ghost use Rattle.boxed_problem.specs.BoxedFacts.{limits_at, value_size};
 ghost use Rattle.boxed_problem.specs.PriceFit.{FitsPrices, HasSign, price_size};
 ghost use Rattle.base_words.specs.Sums.{number_at, size_below};
 ghost use Rattle.safe_bound.specs.PriceWeights.{limit_weight, weight};
@@ -10,7 +10,7 @@ use crate::parts::{is_allowed, limits_reach, part_size, side_reach};
 use boxed_problem::{Boxed, Entry, Prices};
 
 /// The greatest magnitude that prices may have.
-const SIZE_MOST: u128 = 1 << 125;
+const MAX_SIZE: u128 = 1 << 125;
 
 /// The magnitude of the objective, or none where it leaves 128 bits.
 fn objective_size(problem: &Boxed) -> Option<u128>
@@ -113,7 +113,7 @@ pub fn fits(problem: &Boxed, prices: &Prices) -> bool
         return false;
     }
     match prices_size(problem, prices) {
-        Some(size) => size <= SIZE_MOST,
+        Some(size) => size <= MAX_SIZE,
         None => false,
     }
 }

@@ -1,5 +1,5 @@
 ghost use Rattle.std.specs.Prelude.{◌≡◌, ◌+◌, ◌*◌, ◌^◌, ◌≤◌, ◌≤ℤ◌, ◌↔◌, IfSome, IsTrue, true, pos, unsigned_abs};
-ghost use Rattle.boxed_problem.specs.Facts.{limit_size, limits_size};
+ghost use Rattle.boxed_problem.specs.BoxedFacts.{limit_size, limits_size};
 ghost use Rattle.boxed_problem.specs.PriceFit.{HasSign};
 ghost use Rattle.boxed_problem.specs.Sides.{reach};
 

@@ -1,4 +1,4 @@
 pub mod MemberSums
 pub mod MostBounds
-pub mod MultiplierFaults
-pub mod NumberedAnswers
+mod MultiplierFaults
+mod NumberedAnswers

@@ -44,8 +44,8 @@ pair_count words = (length words - 4) / 2
 abbrev pub name_of : List (List ℕ) → ℕ → List ℕ
 name_of words k = word_at words (4 + 2 * k)
 
-abbrev pub value_of : List (List ℕ) → ℕ → List ℕ
-value_of words k = word_at words (5 + 2 * k)
+abbrev pub option_value : List (List ℕ) → ℕ → List ℕ
+option_value words k = word_at words (5 + 2 * k)
 
 -- whether a word is the name of an option
 abbrev pub is_option : List ℕ → Bool
@@ -68,7 +68,7 @@ given_by (k ∷ other ∷ more) = Again
 -- an option's number: the default where it isn't given, the number of its value where it is given once
 abbrev pub number_by : Setting → List (List ℕ) → Given → Option ℕ
 number_by setting words Never = Some setting.default
-number_by setting words (Once k) = number_in setting.least setting.greatest (value_of words k)
+number_by setting words (Once k) = number_in setting.least setting.greatest (option_value words k)
 number_by setting words Again = None
 
 -- the number that the words set for an option; none where it is given twice, or by anything but a number in its range

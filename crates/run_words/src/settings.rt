@@ -1,6 +1,6 @@
 ghost use Rattle.std.specs.Prelude.{◌≡◌, ◌≤◌, ◌<◌, map, string_bytes, IfSome};
 ghost use Rattle.run_words.specs.Numerals.{number_in};
-ghost use Rattle.run_words.specs.Settings.{Setting, are_options, box_option, budget_option, is_option, iterations_option, number_by, number_for, pair_count, rho_option, scale_option, value_of};
+ghost use Rattle.run_words.specs.Settings.{Setting, are_options, box_option, budget_option, is_option, iterations_option, number_by, number_for, pair_count, rho_option, scale_option, option_value};
 
 use crate::given::{Given, name_of, pair_count, same, times_given, word};
 use crate::numeral::number_in;
@@ -8,7 +8,7 @@ use crate::numeral::number_in;
 // The number of the value of a pair that is there, in this range.
 fn value_in(words: &[String], pair: usize, least: u64, greatest: u64) -> Option<u64>
     requires { pair < pair_count (map string_bytes words.now) }
-    ensures value { result ≡ number_in least greatest (value_of (map string_bytes words.now) pair) }
+    ensures value { result ≡ number_in least greatest (option_value (map string_bytes words.now) pair) }
     ensures range { IfSome result (λ k. (least ≤ k) × (k ≤ greatest)) }
 {
     number_in(least, greatest, word(words, 5 + 2 * pair).as_bytes())

@@ -1,5 +1,5 @@
 ghost use Rattle.std.specs.Prelude.{◌≡◌, ◌≤◌, IfSome, map, option_map, string_bytes};
-ghost use Rattle.sp_model.specs.Facts.{OptionFacts};
+ghost use Rattle.sp_model.specs.RunFacts.{OptionFacts};
 ghost use Rattle.run_words.specs.Words.{action_of, command_of, is_command, is_file_name, options_of, options_with, request_of};
 
 use crate::command::{Action, Command};

@@ -4,7 +4,7 @@ use Rattle.std.proofs.lemmas.Int.{ints, clamps}
 use Rattle.std.proofs.Math.Nat.{mul-le-mul, mul-le-mul_left}
 use Rattle.std.specs.Int.{int_min, w128}
 use Rattle.std.specs.List.{AllByRecursion, fold}
-use Rattle.boxed_problem.specs.Facts.{column_size, value_size}
+use Rattle.boxed_problem.specs.BoxedFacts.{column_size, value_size}
 use Rattle.safe_bound.specs.Leasts.{IsLeastAt, least_on, least_part, least_value}
 use Rattle.boxed_problem.specs.Objective.{curve, value_of, value_part}
 use Rattle.boxed_problem.specs.Points.{run_from, side_count, side_values}

@@ -1,9 +1,9 @@
-pub mod WideFits
+mod WideFits
 pub mod Vertex
 pub mod LeastLaws
-pub mod KeyedSums
+mod KeyedSums
 pub mod PriceLaws
-pub mod RunLaws
+mod RunLaws
 pub mod PriceSizes
-pub mod ReducedLaws
-pub mod UnderLaws
+mod ReducedLaws
+mod UnderLaws

@@ -7,7 +7,7 @@ use Rattle.std.proofs.Math.IntN.{*ℤ_comm, pred_ℤ-*ℤ, suc_ℤ-*ℤ}
 use Rattle.std.specs.List.{All, AllByRecursion}
 use Rattle.wide_num.specs.Quotients.{IsCeiling}
 use Rattle.boxed_problem.specs.Data.{Problem}
-use Rattle.boxed_problem.specs.Facts.{limits_at}
+use Rattle.boxed_problem.specs.BoxedFacts.{limits_at}
 use Rattle.boxed_problem.specs.Objective.{curve, value_of, value_part}
 use Rattle.boxed_problem.specs.Optimum.{Feasible}
 use Rattle.boxed_problem.specs.Points.{InBox}

@@ -8,7 +8,7 @@ use Rattle.std.proofs.Math.Nat.{mul-le-mul, mul-le-mul_left}
 use Rattle.std.specs.Int.{w128}
 use Rattle.std.specs.List.{All, sum_by}
 use Rattle.boxed_problem.specs.Data.{Problem}
-use Rattle.boxed_problem.specs.Facts.{column_size, entry_size, limit_size, limits_at, limits_size, no_entry, value_size}
+use Rattle.boxed_problem.specs.BoxedFacts.{column_size, entry_size, limit_size, limits_at, limits_size, no_entry, value_size}
 use Rattle.boxed_problem.specs.PriceFit.{price_part, price_size}
 use Rattle.boxed_problem.specs.Sides.{Within, reach, side_at}
 use Rattle.base_words.specs.Sums.{number_at, size_below, sum_below}

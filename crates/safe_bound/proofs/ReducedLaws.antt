@@ -7,7 +7,7 @@ use Rattle.std.proofs.lemmas.List.{get_or-set_other}
 use Rattle.std.proofs.lemmas.List.Elements.{All-from_get_or}
 use Rattle.std.specs.List.{All}
 use Rattle.boxed_problem.specs.Data.{Problem}
-use Rattle.boxed_problem.specs.Facts.{value_size}
+use Rattle.boxed_problem.specs.BoxedFacts.{value_size}
 use Rattle.boxed_problem.specs.PriceFit.{FitsPrices}
 use Rattle.boxed_problem.specs.Sides.{Within, side_at}
 use Rattle.base_words.specs.Sums.{number_at, sum_below}

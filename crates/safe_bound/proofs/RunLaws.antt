@@ -5,12 +5,12 @@ use Rattle.std.proofs.lemmas.Int.{ints}
 use Rattle.std.proofs.lemmas.List.{take_all}
 use Rattle.std.proofs.lemmas.List.Sums.{fold_more}
 use Rattle.boxed_problem.specs.Data.{Problem}
-use Rattle.boxed_problem.specs.Facts.{ComesBefore, entry_at, no_entry}
+use Rattle.boxed_problem.specs.BoxedFacts.{ComesBefore, entry_at, no_entry}
 use Rattle.base_words.specs.Sums.{number_at}
 use Rattle.boxed_problem.specs.declared.parts.Entry.{Entry}
 use Rattle.boxed_problem.specs.declared.parts.Prices.{Prices}
 use Rattle.safe_bound.specs.PriceBound.{entry_price, unit_price}
-use Rattle.safe_bound.specs.Runs.{IsRun, IsRunEnd, StartsAt}
+use Rattle.safe_bound.specs.Runs.{IsColumnRun, IsRunEnd, StartsAt}
 use Rattle.safe_bound.proofs.KeyedSums.{list_sum}
 
 abbrev pub Ascends : List Entry → Type 0
@@ -26,7 +26,7 @@ ascending es a i (suc n) h =
     omega (arith, r, s, ap (λ k. (entry_at es k).column) e)
 
 -- from the first entry of a column to the first one of another, the entries are those of the column
-pub run_is : (es : List Entry) (column first end : ℕ) → Ascends es → StartsAt es column first → IsRunEnd es column first end → IsRun es column first end
+pub run_is : (es : List Entry) (column first end : ℕ) → Ascends es → StartsAt es column first → IsRunEnd es column first end → IsColumnRun es column first end
 run_is es column first end a s r = record { starts = s; order = r.order; within = r.within; inside = r.inside; behind = later }
   where
     later : (k : ℕ) → end ≤ k → k < length es → column < (entry_at es k).column
@@ -42,7 +42,7 @@ run_is es column first end a s r = record { starts = s; order = r.order; within 
         by_test false e n = grind arith
 
 -- behind a column's entries begin those of the later columns
-pub run_next : (es : List Entry) (column first end : ℕ) → IsRun es column first end → StartsAt es (column + 1) end
+pub run_next : (es : List Entry) (column first end : ℕ) → IsColumnRun es column first end → StartsAt es (column + 1) end
 run_next es column first end r = record {
   within = r.within;
   before = λ k l. by_place k l (nat_le first k) refl;
@@ -80,7 +80,7 @@ entry_here prices j e h =
     ap (λ t. if t then number_at prices.values e.row *ℤ e.value else pos 0) d
 
 -- the sum over the entries before a column's is 0
-pub price_before : (prices : Prices) (es : List Entry) (column first end : ℕ) → IsRun es column first end → pos 0 ≡ list_sum (entry_price prices column) (take first es)
+pub price_before : (prices : Prices) (es : List Entry) (column first end : ℕ) → IsColumnRun es column first end → pos 0 ≡ list_sum (entry_price prices column) (take first es)
 price_before prices es column first end r =
     let w : 0 + first ≤ length es = omega (arith, r.starts.within) in
     let n : 0 + first ≡ first = omega arith in
@@ -89,7 +89,7 @@ price_before prices es column first end r =
     sym (sym (ap (λ k. list_sum (entry_price prices column) (take k es)) n) ∙ s)
 
 -- the sum up to the end of a column's entries is that of the column
-pub price_upto : (b : Problem) (prices : Prices) (column first end : ℕ) → IsRun b.entries column first end → list_sum (entry_price prices column) (take end b.entries) ≡ unit_price b prices column
+pub price_upto : (b : Problem) (prices : Prices) (column first end : ℕ) → IsColumnRun b.entries column first end → list_sum (entry_price prices column) (take end b.entries) ≡ unit_price b prices column
 price_upto b prices column first end r =
     let n = length b.entries - end in
     let w = r.within in

@@ -6,7 +6,7 @@ pub mod ReducedOf
 pub mod Runs
 pub use Rattle.base_words.specs.Sums
 pub use Rattle.boxed_problem.specs.Data
-pub use Rattle.boxed_problem.specs.Facts
+pub use Rattle.boxed_problem.specs.BoxedFacts
 pub use Rattle.boxed_problem.specs.Objective
 pub use Rattle.boxed_problem.specs.Optimum
 pub use Rattle.boxed_problem.specs.Points

@@ -4,7 +4,7 @@ use Rattle.std.specs.Prelude.{ℕ, ◌==◌, List, length, ℤ, pos, ◌+ℤ◌,
 use Rattle.std.specs.List.{fold}
 use Rattle.wide_num.specs.Quotients.{IsCeiling}
 use Rattle.boxed_problem.specs.Data.{Problem}
-use Rattle.boxed_problem.specs.Facts.{limits_at}
+use Rattle.boxed_problem.specs.BoxedFacts.{limits_at}
 use Rattle.boxed_problem.specs.Rows.{activity}
 use Rattle.boxed_problem.specs.Sides.{side_at}
 use Rattle.base_words.specs.Sums.{number_at, sum_below}

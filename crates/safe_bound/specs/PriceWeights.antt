@@ -2,7 +2,7 @@
 
 use Rattle.std.specs.Prelude.{ℕ, ◌*◌, unsigned_abs}
 use Rattle.boxed_problem.specs.Data.{Problem}
-use Rattle.boxed_problem.specs.Facts.{limits_at, limits_size}
+use Rattle.boxed_problem.specs.BoxedFacts.{limits_at, limits_size}
 use Rattle.boxed_problem.specs.Sides.{reach, side_at}
 use Rattle.base_words.specs.Sums.{number_at}
 use Rattle.boxed_problem.specs.declared.parts.Entry.{Entry}

@@ -3,7 +3,7 @@
 use Rattle.std.specs.Prelude.{◌≡◌, ℕ, ◌==◌, ◌^◌, ◌≤◌, List, length, ℤ, pos, ◌+ℤ◌, ◌*ℤ◌, ◌≤ℤ◌, if◌then◌else◌}
 use Rattle.std.specs.List.{All}
 use Rattle.boxed_problem.specs.Data.{Problem}
-use Rattle.boxed_problem.specs.Facts.{value_size}
+use Rattle.boxed_problem.specs.BoxedFacts.{value_size}
 use Rattle.boxed_problem.specs.Sides.{reach, side_at}
 use Rattle.boxed_problem.specs.declared.parts.Prices.{Prices}
 use Rattle.boxed_problem.specs.declared.parts.Side.{Side}

@@ -1,7 +1,7 @@
 -- the entries of one column, which stand side by side
 
 use Rattle.std.specs.Prelude.{◌≡◌, ℕ, ◌<◌, ◌≤◌, List, length}
-use Rattle.boxed_problem.specs.Facts.{entry_at}
+use Rattle.boxed_problem.specs.BoxedFacts.{entry_at}
 use Rattle.boxed_problem.specs.declared.parts.Entry.{Entry}
 
 -- the entries before this place are of earlier columns, and no entry from it on is
@@ -11,7 +11,7 @@ pub record StartsAt (entries : List Entry) (column place : ℕ) : Type 0 where
   pub behind : (k : ℕ) → place ≤ k → k < length entries → column ≤ (entry_at entries k).column
 
 -- the entries of a column are those from one place up to another
-pub record IsRun (entries : List Entry) (column first end : ℕ) : Type 0 where
+pub record IsColumnRun (entries : List Entry) (column first end : ℕ) : Type 0 where
   pub starts : StartsAt entries column first
   pub order : first ≤ end
   pub within : end ≤ length entries

@@ -4,7 +4,7 @@ ghost use Rattle.boxed_problem.specs.PriceFit.{FitsPrices};
 ghost use Rattle.boxed_problem.specs.Sides.{reach, side_at};
 ghost use Rattle.safe_bound.specs.PriceBound.{limit_number, limit_sum, paid_limit, reduced_cost, scaled_square, unit_price};
 ghost use Rattle.safe_bound.specs.Reducing.{kept_cost, kept_square, reduced_constant};
-ghost use Rattle.safe_bound.specs.Runs.{IsRun, IsRunEnd};
+ghost use Rattle.safe_bound.specs.Runs.{IsColumnRun, IsRunEnd};
 
 use boxed_problem::{Boxed, Entry, Limits, Prices, Side};
 
@@ -80,7 +80,7 @@ fn unit_price(problem: &Boxed, prices: &Prices, column: usize, first: usize, end
     requires fits { FitsPrices (problem_of problem.now) prices.now }
     requires column { column < length problem.now.columns }
     requires used { 0 < reach (side_at problem.now.columns column) }
-    requires run { IsRun problem.now.entries column first end }
+    requires run { IsColumnRun problem.now.entries column first end }
     ensures { result ≡ unit_price (problem_of problem.now) prices.now column }
 {
     let entries = problem.entries.as_slice();
@@ -99,7 +99,7 @@ fn reduced_cost(problem: &Boxed, prices: &Prices, column: usize, first: usize, e
     requires fits { FitsPrices (problem_of problem.now) prices.now }
     requires column { column < length problem.now.columns }
     requires used { 0 < reach (side_at problem.now.columns column) }
-    requires run { IsRun problem.now.entries column first end }
+    requires run { IsColumnRun problem.now.entries column first end }
     ensures line { result.line ≡ reduced_cost (problem_of problem.now) prices.now column }
     ensures square { result.square ≡ scaled_square (problem_of problem.now) prices.now column }
 {
@@ -125,7 +125,7 @@ fn is_idle(side: Side) -> bool
 pub fn kept_cost(problem: &Boxed, prices: &Prices, column: usize, first: usize, end: usize) -> Cost
     requires fits { FitsPrices (problem_of problem.now) prices.now }
     requires column { column < length problem.now.columns }
-    requires run { IsRun problem.now.entries column first end }
+    requires run { IsColumnRun problem.now.entries column first end }
     ensures line { result.line ≡ kept_cost (problem_of problem.now) prices.now column }
     ensures square { result.square ≡ kept_square (problem_of problem.now) prices.now column }
 {

@@ -1,12 +1,12 @@
-pub mod Agreement
+mod Agreement
 pub mod Apart
-pub mod Staying
+mod Staying
 pub mod Digits
-pub mod Keeping
-pub mod Marks
+mod Keeping
+mod Marks
 pub mod Nesting
-pub mod Distinctness
-pub mod Order
-pub mod Rows
-pub mod ScenarioValues
-pub mod WeightSums
+mod Distinctness
+mod Order
+mod Rows
+mod ScenarioValues
+mod WeightSums

@@ -14,7 +14,7 @@ use Rattle.stoch_lines.specs.Places.{same_place}
 use Rattle.stoch_lines.specs.declared.places.StochEntry.{StochEntry}
 use Rattle.stoch_lines.specs.declared.places.StochPlace.{StochPlace}
 use Rattle.stoch_lines.specs.declared.places.StochPlace.TheVariants.{Cost, Cell, Right}
-use Rattle.smps_stoch.specs.LawWords.{value_of}
+use Rattle.smps_stoch.specs.LawWords.{value_at_place}
 use Rattle.smps_stoch.specs.StochFacts.{IsEarlier, no_branch}
 use Rattle.smps_stoch.specs.declared.stoch.Branch.{Branch}
 use Rattle.smps_stoch.specs.declared.stoch.Element.{Element}
@@ -86,7 +86,7 @@ first_folded place kept (e ∷ entries) =
     ∙ one_more place kept e (find (is_of place) entries) (has_place kept e.place) refl
 
 -- the entries that are first of their places give the same values
-pub first_value : (place : StochPlace) (entries : List StochEntry) → value_of place (first_of_each entries) ≡ value_of place entries
+pub first_value : (place : StochPlace) (entries : List StochEntry) → value_at_place place (first_of_each entries) ≡ value_at_place place entries
 unfolding first_of_each
 first_value place entries = ap (option_map (λ e. e.value)) (first_folded place [] entries)
 
@@ -95,7 +95,7 @@ value_behind : (one other : Option StochEntry) → option_map (λ e. e.value) (o
 value_behind None other = refl
 value_behind (Some e) other = refl
 
-pub value-append : (place : StochPlace) (xs ys : List StochEntry) → value_of place (xs ++ ys) ≡ option_or (value_of place xs) (value_of place ys)
+pub value-append : (place : StochPlace) (xs ys : List StochEntry) → value_at_place place (xs ++ ys) ≡ option_or (value_at_place place xs) (value_at_place place ys)
 value-append place xs ys =
     ap (option_map (λ e. e.value)) (find-append (is_of place) xs ys)
     ∙ value_behind (find (is_of place) xs) (find (is_of place) ys)
@@ -107,10 +107,10 @@ last_answer (Some v) b = refl
 last_answer None (Some w) = refl
 last_answer None None = refl
 
-gathered_value : (place : StochPlace) (f : ℕ → List StochEntry) (n : ℕ) → value_of place (gathered n f) ≡ first_some (λ k. value_of place (f k)) (range_with_len 0 n)
+gathered_value : (place : StochPlace) (f : ℕ → List StochEntry) (n : ℕ) → value_at_place place (gathered n f) ≡ first_some (λ k. value_at_place place (f k)) (range_with_len 0 n)
 gathered_value place f zero = refl
 gathered_value place f (suc n) =
-    let F : ℕ → Option Decimal = λ k. value_of place (f k) in
+    let F : ℕ → Option Decimal = λ k. value_at_place place (f k) in
     let z : 0 + n ≡ n = omega arith in
     value-append place (gathered n f) (f n)
     ∙ (ap (λ o. option_or o (F n)) (gathered_value place f n)
@@ -122,11 +122,11 @@ first_some_same : (f g : ℕ → Option Decimal) → ((k : ℕ) → f k ≡ g k)
 first_some_same f g same [] = refl
 first_some_same f g same (k ∷ ks) = ap (λ o. option_or o (first_some f ks)) (same k) ∙ ap (option_or (g k)) (first_some_same f g same ks)
 
-pub chosen_or_first : (es : List Element) (choices : List ℕ) (place : StochPlace) → value_of place (scenario_in es choices).entries ≡ first_some (chosen_value es choices place) (range_with_len 0 (length es))
+pub chosen_or_first : (es : List Element) (choices : List ℕ) (place : StochPlace) → value_at_place place (scenario_in es choices).entries ≡ first_some (chosen_value es choices place) (range_with_len 0 (length es))
 chosen_or_first es choices place =
     first_value place (entries_in es choices)
     ∙ (gathered_value place (entries_at es choices) (length es)
-    ∙ first_some_same (λ k. value_of place (entries_at es choices k)) (chosen_value es choices place) (λ k. value-append place (chosen_at es choices k).entries (get_or (realisations_at es k) 0 no_realisation).entries) (range_with_len 0 (length es)))
+    ∙ first_some_same (λ k. value_at_place place (entries_at es choices k)) (chosen_value es choices place) (λ k. value-append place (chosen_at es choices k).entries (get_or (realisations_at es k) 0 no_realisation).entries) (range_with_len 0 (length es)))
 
 -- listed scenarios
 
@@ -157,16 +157,16 @@ made_at made (b ∷ bs) zero i at lt earlier =
 made_at made (b ∷ bs) (suc k) i at lt earlier =
     made_at (with_branch made b) bs k i (omega (arith, at, length_push made (scenario_beside made b))) (omega (arith, lt)) earlier
 
-value_taken_over : (branches : List Branch) (place : StochPlace) (parent : Option ℕ) → value_of place (inherited (branch_scenarios branches) parent) ≡ parent_value branches place parent
+value_taken_over : (branches : List Branch) (place : StochPlace) (parent : Option ℕ) → value_at_place place (inherited (branch_scenarios branches) parent) ≡ parent_value branches place parent
 value_taken_over branches place None = refl
 value_taken_over branches place (Some parent) = refl
 
-pub own_or_parents : (branches : List Branch) (k : ℕ) (place : StochPlace) → HaveParents branches → k < length branches → listed_value branches place k ≡ option_or (value_of place (get_or branches k no_branch).entries) (parent_value branches place (get_or branches k no_branch).parent)
+pub own_or_parents : (branches : List Branch) (k : ℕ) (place : StochPlace) → HaveParents branches → k < length branches → listed_value branches place k ≡ option_or (value_at_place place (get_or branches k no_branch).entries) (parent_value branches place (get_or branches k no_branch).parent)
 unfolding branch_scenarios
 own_or_parents branches k place parents lt =
     let b = get_or branches k no_branch in
     let whole = fold with_branch [] branches in
-    ap (value_of place) (made_at [] branches k k (omega arith) lt (parents k lt))
+    ap (value_at_place place) (made_at [] branches k k (omega arith) lt (parents k lt))
     ∙ (first_value place (b.entries ++ inherited whole b.parent)
     ∙ (value-append place b.entries (inherited whole b.parent)
-    ∙ ap (option_or (value_of place b.entries)) (value_taken_over branches place b.parent)))
+    ∙ ap (option_or (value_at_place place b.entries)) (value_taken_over branches place b.parent)))

@@ -3,7 +3,7 @@ use Rattle.std.specs.Prelude.{◌≡◌, ℕ, ◌*◌, List, [], ◌∷◌, Opti
 use Rattle.std.specs.List.{sum_by}
 use Rattle.dec_core.specs.declared.decimal.Decimal.{Decimal}
 use Rattle.stoch_lines.specs.declared.places.StochPlace.{StochPlace}
-use Rattle.smps_stoch.specs.LawWords.{value_in, value_of}
+use Rattle.smps_stoch.specs.LawWords.{value_in, value_at_place}
 use Rattle.smps_stoch.specs.declared.stoch.Branch.{Branch}
 use Rattle.smps_stoch.specs.declared.stoch.Element.{Element}
 use Rattle.smps_stoch.specs.declared.stoch.Realisation.{Realisation}
@@ -12,7 +12,7 @@ use Rattle.scenario_lists.specs.ScenarioList.{branch_scenarios, no_scenario}
 
 -- the value of a place in scenario k of a file that lists them
 abbrev pub listed_value : List Branch → StochPlace → ℕ → Option Decimal
-listed_value branches place k = value_of place (slice_index_or (branch_scenarios branches) k no_scenario).entries
+listed_value branches place k = value_at_place place (slice_index_or (branch_scenarios branches) k no_scenario).entries
 
 -- the value of a place that a scenario takes over: its parent's; the core gives none
 abbrev pub parent_value : List Branch → StochPlace → Option ℕ → Option Decimal

@@ -3,7 +3,7 @@ ghost use Rattle.std.specs.List.{range_with_len, sum_by};
 ghost use Rattle.std.specs.Option.{option_or};
 ghost use Rattle.base_words.specs.FirstAnswers.{first_some};
 ghost use Rattle.stoch_lines.specs.declared.places.StochPlace.{StochPlace};
-ghost use Rattle.smps_stoch.specs.LawWords.{value_of};
+ghost use Rattle.smps_stoch.specs.LawWords.{value_at_place};
 ghost use Rattle.smps_stoch.specs.StochFacts.{no_branch};
 ghost use Rattle.smps_stoch.specs.declared.stoch.Branch.{Branch};
 ghost use Rattle.smps_stoch.specs.declared.stoch.Element.{Element};
@@ -17,7 +17,7 @@ pub fn values_are_own_or_parents()
     ensures { (branches : List Branch) (k : ℕ) (place : StochPlace) →
         HaveParents branches → k < length branches →
         listed_value branches place k
-        ≡ option_or (value_of place (slice_index_or branches k no_branch).entries)
+        ≡ option_or (value_at_place place (slice_index_or branches k no_branch).entries)
         (parent_value branches place (slice_index_or branches k no_branch).parent) }
 {}
 
@@ -26,7 +26,7 @@ pub fn values_are_own_or_parents()
 /// element's first realisation. It is none where no element gives one.
 pub fn values_are_chosen_or_first()
     ensures { (elements : List Element) (choices : List ℕ) (place : StochPlace) →
-        value_of place (scenario_in elements choices).entries
+        value_at_place place (scenario_in elements choices).entries
         ≡ first_some (chosen_value elements choices place)
         (range_with_len 0 (length elements)) }
 {}

@@ -8,7 +8,7 @@ use Rattle.std.proofs.lemmas.List.{append-nil, take_more}
 use Rattle.std.proofs.lemmas.List.Elements.{All-append, All-cons, All-nil}
 use Rattle.std.proofs.lemmas.List.Quantifiers.{position-Some}
 use Rattle.std.specs.Str.{bytes_eq}
-use Rattle.line_core.specs.Lines.{lines_of}
+use Rattle.line_core.specs.SplitLines.{lines_of}
 use Rattle.line_core.specs.Names.{number_of}
 use Rattle.line_core.specs.declared.line_list.Line.{Line}
 use Rattle.line_core.specs.declared.line_list.LineFault.{LineFault}
@@ -17,7 +17,7 @@ use Rattle.dec_core.specs.declared.decimal.Decimal.{Decimal}
 use Rattle.smps_words.proofs.PlaceLaw.{says}
 use Rattle.smps_words.specs.Outcomes.{Outcome, answer_of}
 use Rattle.smps_words.specs.Outcomes.Outcome.{Faulty, Ended, Endless}
-use Rattle.smps_words.specs.Places.{Says}
+use Rattle.smps_words.specs.FirstPlaces.{Says}
 use Rattle.smps_words.specs.Tables.{first_true, ◌or◌}
 use Rattle.smps_words.specs.TextLines.{TextLine, field_count, last_number, text_lines}
 use Rattle.core_lines.proofs.NextLaw.{goes_on}
@@ -28,7 +28,7 @@ use Rattle.core_lines.specs.Headers.{header_fault, is_bounds, is_columns, is_end
 use Rattle.core_lines.specs.Lines.{before_of, data_fault, is_end, is_within, line_fault, next}
 use Rattle.core_lines.specs.Meaning.{fault_behind, meaning, outcome_of, said_by_read, said_by}
 use Rattle.core_lines.specs.Parts.{Before, BoundsSaid, ColumnsSaid, RowsSaid}
-use Rattle.core_lines.specs.RowLines.{names_in, place_of, rows_next}
+use Rattle.core_lines.specs.RowLines.{names_in, row_place, rows_next}
 use Rattle.core_lines.specs.declared.cells.Cell.{Cell}
 use Rattle.core_lines.specs.declared.kinds.CoreKind.{CoreKind}
 use Rattle.core_lines.specs.declared.kinds.CoreKind.TheVariants as kinds
@@ -52,7 +52,7 @@ place_by rows None (Some i) lt = by (i == 0)
     by false = tt
 place_by rows None None lt = tt
 
-place_low : (rows : RowsSaid) (name : List ℕ) → IfSome (place_of rows name) (λ place. place ≤ length rows.names)
+place_low : (rows : RowsSaid) (name : List ℕ) → IfSome (row_place rows name) (λ place. place ≤ length rows.names)
 place_low rows name = place_by rows (number_of name rows.names) (number_of name rows.frees) (number_below name rows.names (number_of name rows.names) refl)
 
 abbrev IsLow : ℕ → Cell → Type 0
@@ -66,12 +66,12 @@ cells_low : (rows : RowsSaid) (names : List (List ℕ)) (line : TextLine) → Al
 cells_low rows names line = by (is_marker line)
   where
     second : (t : Bool) → All (IsLow (length rows.names)) (if t then cell_in rows names 3 line else [])
-    second true = cell_low (length rows.names) (place_of rows _) _ _ _ (place_low rows _)
+    second true = cell_low (length rows.names) (row_place rows _) _ _ _ (place_low rows _)
     second false = All-nil (IsLow (length rows.names))
 
     by : (t : Bool) → All (IsLow (length rows.names)) (if t then [] else (cell_in rows names 1 line ++ (if has_second line then cell_in rows names 3 line else [])))
     by true = All-nil (IsLow (length rows.names))
-    by false = All-append (IsLow (length rows.names)) (cell_in rows names 1 line) (if has_second line then cell_in rows names 3 line else []) (cell_low (length rows.names) (place_of rows _) _ _ _ (place_low rows _)) (second (has_second line))
+    by false = All-append (IsLow (length rows.names)) (cell_in rows names 1 line) (if has_second line then cell_in rows names 3 line else []) (cell_low (length rows.names) (row_place rows _) _ _ _ (place_low rows _)) (second (has_second line))
 
 abbrev Placed : RowsSaid → ColumnsSaid → Type 0
 Placed rows columns = All (IsLow (length rows.names)) columns.cells

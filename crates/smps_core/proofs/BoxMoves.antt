@@ -8,7 +8,7 @@ use Rattle.smps_words.specs.Outcomes.{latest}
 use Rattle.smps_words.specs.TextLines.{TextLine}
 use Rattle.core_lines.proofs.LatestLaws.{latest_push}
 use Rattle.core_lines.proofs.NextLaw.{goes_on}
-use Rattle.core_lines.specs.BoundLines.{bound_for, bound_set, bounds_next, column_word, kind_of, lower_said, speaks_low, upper_said, value_of}
+use Rattle.core_lines.specs.BoundLines.{bound_for, bound_set, bounds_next, column_word, kind_of, lower_said, speaks_low, upper_said, bound_value}
 use Rattle.core_lines.specs.Boxes.{end_said, lower_of, speaks, upper_of}
 use Rattle.core_lines.specs.Headers.{is_bounds}
 use Rattle.core_lines.specs.Lines.{bounds_of, column_names_of, is_within, section_of}
@@ -61,9 +61,9 @@ moved_by at other said finds j bounds true (Some kind) (Some i) value =
     ∙ ap (λ (e : EndChange). if speaks e && (i == j) then end_said e else end_by at other j bounds) (finds kind i value)
     ∙ ap (λ (t : Bool). if t then end_said (said kind value) else end_by at other j bounds) (and_swap (speaks (said kind value)) (i == j))
 
-moved_next : (at : Bound → EndChange) (other : Option ℤ) (said : BoundKind → BoundValue → EndChange) → Finds at said → (j : ℕ) (within : Bool) (names : List (List ℕ)) (b : BoundsSaid) (line : TextLine) → end_by at other j (bounds_next within names b line).bounds ≡ moved (within && is_used b.set (bound_set line) && option_map_or (λ i. i == j) (number_of (column_word line) names) false) (change said (kind_of line) (value_of line)) (end_by at other j b.bounds)
+moved_next : (at : Bound → EndChange) (other : Option ℤ) (said : BoundKind → BoundValue → EndChange) → Finds at said → (j : ℕ) (within : Bool) (names : List (List ℕ)) (b : BoundsSaid) (line : TextLine) → end_by at other j (bounds_next within names b line).bounds ≡ moved (within && is_used b.set (bound_set line) && option_map_or (λ i. i == j) (number_of (column_word line) names) false) (change said (kind_of line) (bound_value line)) (end_by at other j b.bounds)
 moved_next at other said finds j false names b line = refl
-moved_next at other said finds j true names b line = moved_by at other said finds j b.bounds (is_used b.set (bound_set line)) (kind_of line) (number_of (column_word line) names) (value_of line)
+moved_next at other said finds j true names b line = moved_by at other said finds j b.bounds (is_used b.set (bound_set line)) (kind_of line) (number_of (column_word line) names) (bound_value line)
 
 pub lower_moves : (before : List TextLine) (line : TextLine) (j : ℕ) → MovesLower before line j
 lower_moves before line j =

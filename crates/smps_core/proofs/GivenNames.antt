@@ -8,9 +8,9 @@ use Rattle.std.proofs.lemmas.List.Sums.{fold-append}
 use Rattle.line_core.specs.Names.{number_of}
 use Rattle.smps_words.proofs.PlaceLaw.{says}
 use Rattle.smps_words.proofs.ToldLaws.{told_push}
-use Rattle.smps_words.specs.Outcomes.{Outcome, told}
+use Rattle.smps_words.specs.Outcomes.{Outcome, all_told}
 use Rattle.smps_words.specs.Outcomes.Outcome.{Ended}
-use Rattle.smps_words.specs.Places.{CleanTo, Says}
+use Rattle.smps_words.specs.FirstPlaces.{CleanTo, Says}
 use Rattle.smps_words.specs.Tables.{first_true, ◌or◌}
 use Rattle.smps_words.specs.TextLines.{TextLine, field, no_line}
 use Rattle.smps_words.specs.declared.core_data.RowKind.{RowKind}
@@ -42,8 +42,8 @@ row_words true (Some (Some kind)) name = refl
 row_words false kind name = refl
 
 -- equal tables tell the same
-told_same : {X : Type 0} (f g : List TextLine → TextLine → List X) → ((before : List TextLine) (line : TextLine) → f before line ≡ g before line) → (lines : List TextLine) → told f [] lines ≡ told g [] lines
-told_same {X} f g same lines = ap (λ (h : List TextLine → TextLine → List X). told h [] lines) (λ i before line. same before line i)
+told_same : {X : Type 0} (f g : List TextLine → TextLine → List X) → ((before : List TextLine) (line : TextLine) → f before line ≡ g before line) → (lines : List TextLine) → all_told f [] lines ≡ all_told g [] lines
+told_same {X} f g same lines = ap (λ (h : List TextLine → TextLine → List X). all_told h [] lines) (λ i before line. same before line i)
 
 columns_collected : (lines : List TextLine) → column_names_of lines ≡ collected column_given lines
 columns_collected lines =
@@ -118,16 +118,16 @@ clean_parts lines line clean =
     let long = length_push lines line in
     (λ n lt. sym (at_old fault_behind lines line n lt) ∙ clean n (omega (arith, lt, long)), sym (at_new fault_behind lines line) ∙ clean (length lines) (omega (arith, long)))
 
-rows_once : (lines : List TextLine) → AreClean lines → (rows_of lines).names ≡ fold grown [] (told row_tells [] lines)
-rows_once lines clean = by_lines (λ xs. AreClean xs → (rows_of xs).names ≡ fold grown [] (told row_tells [] xs)) one [] lines (λ none. refl) clean
+rows_once : (lines : List TextLine) → AreClean lines → (rows_of lines).names ≡ fold grown [] (all_told row_tells [] lines)
+rows_once lines clean = by_lines (λ xs. AreClean xs → (rows_of xs).names ≡ fold grown [] (all_told row_tells [] xs)) one [] lines (λ none. refl) clean
   where
-    one : (xs : List TextLine) (x : TextLine) → (AreClean xs → (rows_of xs).names ≡ fold grown [] (told row_tells [] xs)) → AreClean (xs ++ x ∷ []) → (rows_of (xs ++ x ∷ [])).names ≡ fold grown [] (told row_tells [] (xs ++ x ∷ []))
+    one : (xs : List TextLine) (x : TextLine) → (AreClean xs → (rows_of xs).names ≡ fold grown [] (all_told row_tells [] xs)) → AreClean (xs ++ x ∷ []) → (rows_of (xs ++ x ∷ [])).names ≡ fold grown [] (all_told row_tells [] (xs ++ x ∷ []))
     one xs x before clean =
         let parts = clean_parts xs x clean in
         told_push row_tells xs x
         ∙ added_within xs x (is_within is_rows (section_of xs) x) refl parts.1
         ∙ ap (λ (names : List (List ℕ)). fold grown names (row_tells xs x)) (before parts.0)
-        ∙ sym (fold-append grown [] (told row_tells [] xs) (row_tells xs x))
+        ∙ sym (fold-append grown [] (all_told row_tells [] xs) (row_tells xs x))
         ∙ sym (ap (fold grown []) (told_push row_tells xs x))
 
 rows_collected : (lines : List TextLine) → AreClean lines → (rows_of lines).names ≡ collected row_given lines

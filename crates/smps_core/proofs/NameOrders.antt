@@ -15,7 +15,7 @@ use Rattle.std.proofs.lemmas.Slice.Eq.{bytes_eq-Decides}
 use Rattle.line_core.proofs.Numbered.{none_passes}
 use Rattle.line_core.specs.Names.{number_of}
 use Rattle.smps_words.proofs.ToldLaws.{told_push}
-use Rattle.smps_words.specs.Outcomes.{told}
+use Rattle.smps_words.specs.Outcomes.{all_told}
 use Rattle.smps_words.specs.TextLines.{TextLine, no_line}
 use Rattle.core_lines.specs.ColumnLines.{grown}
 use Rattle.smps_core.proofs.Accepted.{by_lines}
@@ -42,12 +42,12 @@ at_new asks lines line =
 
 -- the names that lines give, each once
 abbrev pub collected : Asks (Option (List ℕ)) → List TextLine → List (List ℕ)
-collected gives lines = fold grown [] (told (λ before line. option_to_list (gives before line)) [] lines)
+collected gives lines = fold grown [] (all_told (λ before line. option_to_list (gives before line)) [] lines)
 
 collected_more : (gives : Asks (Option (List ℕ))) (lines : List TextLine) (line : TextLine) → collected gives (lines ++ line ∷ []) ≡ fold grown (collected gives lines) (option_to_list (gives lines line))
 collected_more gives lines line =
     ap (fold grown []) (told_push (λ before l. option_to_list (gives before l)) lines line)
-    ∙ fold-append grown [] (told (λ before l. option_to_list (gives before l)) [] lines) (option_to_list (gives lines line))
+    ∙ fold-append grown [] (all_told (λ before l. option_to_list (gives before l)) [] lines) (option_to_list (gives lines line))
 
 -- the first line that gives a name stays the first
 still_first : (gives : Asks (Option (List ℕ))) (lines : List TextLine) (line : TextLine) (name : List ℕ) (n : ℕ) → IsFirstOf gives lines name n → IsFirstOf gives (lines ++ line ∷ []) name n

@@ -11,7 +11,7 @@ use Rattle.dec_core.specs.declared.decimal.Decimal.{Decimal}
 use Rattle.smps_words.specs.CoreFacts.{zero_decimal}
 use Rattle.line_core.specs.Names.{number_of}
 use Rattle.smps_words.specs.NumberFields.{number_in}
-use Rattle.smps_words.specs.Outcomes.{told}
+use Rattle.smps_words.specs.Outcomes.{all_told}
 use Rattle.smps_words.specs.Outcomes.Outcome.{Ended}
 use Rattle.smps_words.specs.TextLines.{TextLine, field, no_line}
 use Rattle.smps_words.specs.declared.core_data.CoreEntry.{CoreEntry}
@@ -20,7 +20,7 @@ use Rattle.core_lines.specs.Headers.{is_columns}
 use Rattle.core_lines.specs.Lines.{cells_of, column_names_of, is_within, rows_of, section_of}
 use Rattle.core_lines.specs.Meaning.{outcome_of}
 use Rattle.core_lines.specs.Parts.{RowsSaid}
-use Rattle.core_lines.specs.RowLines.{place_of}
+use Rattle.core_lines.specs.RowLines.{row_place}
 use Rattle.core_lines.specs.declared.cells.Cell.{Cell}
 use Rattle.smps_core.proofs.GivenNames.{AreClean, accepted_clean}
 use Rattle.smps_core.proofs.RowsStay.{rows_stay}
@@ -38,18 +38,18 @@ IsTold tells d x before xs = (n : ℕ) × (n < length xs) × Contains (tells (be
 later : {L X : Type 0} (tells : List L → L → List X) (d : L) (x : X) (before : List L) (line : L) (rest : List L) → IsTold tells d x (before ++ line ∷ []) rest → IsTold tells d x before (line ∷ rest)
 later {L} tells d x before line rest (n, lt, found) = (suc n, omega (arith, lt), subst (λ (b : List L). Contains (tells b (get_or rest n d)) x) (append_assoc before (line ∷ []) (take n rest)) found)
 
-here_or_later : {L X : Type 0} (tells : List L → L → List X) (d : L) (x : X) (before : List L) (line : L) (rest : List L) → (Contains (told tells (before ++ line ∷ []) rest) x → IsTold tells d x (before ++ line ∷ []) rest) → Contains (tells before line) x ⊎ Contains (told tells (before ++ line ∷ []) rest) x → IsTold tells d x before (line ∷ rest)
+here_or_later : {L X : Type 0} (tells : List L → L → List X) (d : L) (x : X) (before : List L) (line : L) (rest : List L) → (Contains (all_told tells (before ++ line ∷ []) rest) x → IsTold tells d x (before ++ line ∷ []) rest) → Contains (tells before line) x ⊎ Contains (all_told tells (before ++ line ∷ []) rest) x → IsTold tells d x before (line ∷ rest)
 here_or_later {L} tells d x before line rest on (inl here) = (0, omega arith, subst (λ (b : List L). Contains (tells b line) x) (sym (append-nil before)) here)
 here_or_later tells d x before line rest on (inr there) = later tells d x before line rest (on there)
 
-at_a_line : {L X : Type 0} (tells : List L → L → List X) (d : L) (x : X) (before xs : List L) → Contains (told tells before xs) x → IsTold tells d x before xs
+at_a_line : {L X : Type 0} (tells : List L → L → List X) (d : L) (x : X) (before xs : List L) → Contains (all_told tells before xs) x → IsTold tells d x before xs
 at_a_line tells d x before [] there = absurd (none_in x there)
-at_a_line tells d x before (line ∷ rest) there = here_or_later tells d x before line rest (at_a_line tells d x (before ++ line ∷ []) rest) (Contains-append_cases (tells before line) (told tells (before ++ line ∷ []) rest) x there)
+at_a_line tells d x before (line ∷ rest) there = here_or_later tells d x before line rest (at_a_line tells d x (before ++ line ∷ []) rest) (Contains-append_cases (tells before line) (all_told tells (before ++ line ∷ []) rest) x there)
 
-by_a_line : {L X : Type 0} (tells : List L → L → List X) (d : L) (x : X) (before xs : List L) (n : ℕ) → n < length xs → Contains (tells (before ++ take n xs) (get_or xs n d)) x → Contains (told tells before xs) x
+by_a_line : {L X : Type 0} (tells : List L → L → List X) (d : L) (x : X) (before xs : List L) (n : ℕ) → n < length xs → Contains (tells (before ++ take n xs) (get_or xs n d)) x → Contains (all_told tells before xs) x
 by_a_line tells d x before [] n lt found = absurd (omega (arith, lt))
-by_a_line {L} tells d x before (line ∷ rest) zero lt found = Contains-append_left (tells before line) (told tells (before ++ line ∷ []) rest) x (subst (λ (b : List L). Contains (tells b line) x) (append-nil before) found)
-by_a_line {L} tells d x before (line ∷ rest) (suc n) lt found = Contains-append_right (tells before line) (told tells (before ++ line ∷ []) rest) x (by_a_line tells d x (before ++ line ∷ []) rest n (omega (arith, lt)) (subst (λ (b : List L). Contains (tells b (get_or rest n d)) x) (sym (append_assoc before (line ∷ []) (take n rest))) found))
+by_a_line {L} tells d x before (line ∷ rest) zero lt found = Contains-append_left (tells before line) (all_told tells (before ++ line ∷ []) rest) x (subst (λ (b : List L). Contains (tells b line) x) (append-nil before) found)
+by_a_line {L} tells d x before (line ∷ rest) (suc n) lt found = Contains-append_right (tells before line) (all_told tells (before ++ line ∷ []) rest) x (by_a_line tells d x (before ++ line ∷ []) rest n (omega (arith, lt)) (subst (λ (b : List L). Contains (tells b (get_or rest n d)) x) (sym (append_assoc before (line ∷ []) (take n rest))) found))
 
 -- the pair of a row that isn't ignored
 abbrev AreParts : Option ℕ → ℕ → Decimal → ℕ → Cell → Type 0
@@ -67,7 +67,7 @@ of_parts place column value number c (row, col, val, num) =
 
 -- the pair at field k of a line, by the rows and columns of the lines before it
 abbrev TellsPairAt : List TextLine → TextLine → ℕ → Cell → Type 0
-TellsPairAt before line k c = AreParts (place_of (rows_of before) (field k line)) (column_number (column_names_of before) (field 0 line)) (number_in (field (k + 1) line)) line.number c
+TellsPairAt before line k c = AreParts (row_place (rows_of before) (field k line)) (column_number (column_names_of before) (field 0 line)) (number_in (field (k + 1) line)) line.number c
 
 abbrev TellsPair : List TextLine → TextLine → Cell → Type 0
 TellsPair before line c = TellsPairAt before line 1 c ⊎ ((has_second line ≡ true) × TellsPairAt before line 3 c)

@@ -4,7 +4,7 @@ use Rattle.std.specs.Option.{option_map_or}
 use Rattle.line_core.specs.Names.{number_of}
 use Rattle.smps_words.specs.TextLines.{TextLine}
 use Rattle.smps_words.specs.declared.core_data.CoreColumn.{CoreColumn}
-use Rattle.core_lines.specs.BoundLines.{bound_set, column_word, kind_of, lower_said, upper_said, value_of}
+use Rattle.core_lines.specs.BoundLines.{bound_set, column_word, kind_of, lower_said, upper_said, bound_value}
 use Rattle.core_lines.specs.Boxes.{end_said, lower_of, speaks, upper_of}
 use Rattle.core_lines.specs.Headers.{is_bounds}
 use Rattle.core_lines.specs.Lines.{bound_set_of, bounds_of, column_names_of, is_within, section_of}
@@ -29,10 +29,10 @@ is_bound_of before line j = is_within is_bounds (section_of before) line && is_u
 
 -- what the kind and the value of a line say of the lower end and of the upper one
 abbrev pub lower_change : TextLine → EndChange
-lower_change line = option_map_or (λ kind. lower_said kind (value_of line)) (kind_of line) Kept
+lower_change line = option_map_or (λ kind. lower_said kind (bound_value line)) (kind_of line) Kept
 
 abbrev pub upper_change : TextLine → EndChange
-upper_change line = option_map_or (λ kind. upper_said kind (value_of line)) (kind_of line) Kept
+upper_change line = option_map_or (λ kind. upper_said kind (bound_value line)) (kind_of line) Kept
 
 -- one more line moves an end of the box of column j to where it says, if it is a line of that column that speaks of that end; else the end stays
 abbrev pub MovesLower : List TextLine → TextLine → ℕ → Type 0

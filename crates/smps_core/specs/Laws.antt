@@ -8,7 +8,7 @@ use Rattle.core_lines.specs.ColumnLines.{has_second, is_marker}
 use Rattle.core_lines.specs.Headers.{is_columns}
 use Rattle.core_lines.specs.Lines.{column_names_of, is_within, rows_of, section_of}
 use Rattle.core_lines.specs.Parts.{RowsSaid}
-use Rattle.core_lines.specs.RowLines.{place_of}
+use Rattle.core_lines.specs.RowLines.{row_place}
 use Rattle.core_lines.specs.declared.cells.Cell.{Cell}
 
 -- each of two facts follows from the other
@@ -22,7 +22,7 @@ IsColumnsLine before line = (is_within is_columns (section_of before) line ≡ t
 -- the pair at field k of a line has the row, the column, the number and the line's number of a cell, by these rows and names of columns
 abbrev pub HasPairAt : RowsSaid → List (List ℕ) → TextLine → ℕ → Cell → Type 0
 HasPairAt rows names line k c =
-    (place_of rows (field k line) ≡ Some c.row)
+    (row_place rows (field k line) ≡ Some c.row)
     × (number_of (field 0 line) names ≡ Some c.column)
     × (number_in (field (k + 1) line) ≡ c.value)
     × (line.number ≡ c.line)

@@ -13,7 +13,7 @@ use Rattle.smps_words.specs.Stages.{IsStageOf, stage_in}
 use Rattle.smps_words.specs.declared.core_file.Core.{Core}
 use Rattle.smps_words.specs.declared.periods.Periods.{Periods}
 use Rattle.smps_words.proofs.PeriodStages.{column_stage}
-use Rattle.sp_model.specs.Facts.{IsColumn}
+use Rattle.sp_model.specs.RunFacts.{IsColumn}
 use Rattle.sp_model.specs.declared.program.Column.{Column}
 use Rattle.join_words.specs.Boxes.{box_in, boxes_of, filled}
 use Rattle.join_words.specs.Parts.{column_at, firsts_of, no_column, parts_of}

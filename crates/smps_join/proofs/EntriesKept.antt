@@ -7,7 +7,7 @@ use Rattle.std.proofs.lemmas.List.{get_or-map, get_or_default, length-map}
 use Rattle.std.proofs.lemmas.List.Elements.{All-filter, All-map, filter_passes}
 use Rattle.std.proofs.lemmas.List.Kept.{AllPairs-filter}
 use Rattle.std.proofs.lemmas.List.FromFn.{get_or-map-range_with_len, length-map-range_with_len}
-use Rattle.boxed_problem.specs.Facts.{ComesBefore, entry_at, no_entry}
+use Rattle.boxed_problem.specs.BoxedFacts.{ComesBefore, entry_at, no_entry}
 use Rattle.boxed_problem.specs.Sides.{no_side, reach, side_at}
 use Rattle.boxed_problem.specs.declared.parts.Entry.{Entry}
 use Rattle.boxed_problem.specs.declared.parts.Side.{Side}

@@ -1,12 +1,12 @@
-pub mod ColumnFacts
-pub mod Counted
-pub mod Counts
-pub mod Living
-pub mod EntriesKept
-pub mod FrameIs
-pub mod FromStoch
-pub mod Listed
-pub mod Refusing
-pub mod RunIs
-pub mod ScenarioFacts
-pub mod TreeShape
+mod ColumnFacts
+mod Counted
+mod Counts
+mod Living
+mod EntriesKept
+mod FrameIs
+mod FromStoch
+mod Listed
+mod Refusing
+mod RunIs
+mod ScenarioFacts
+mod TreeShape

@@ -4,7 +4,7 @@ use Rattle.std.specs.List.{All, Any, cons_option, filter_map, sum_by}
 use Rattle.std.proofs.lemmas.List.{length-map}
 use Rattle.std.proofs.lemmas.List.FromFn.{length-map-range_with_len}
 use Rattle.std.proofs.lemmas.List.Sums.{sum_by-cons}
-use Rattle.boxed_problem.specs.Facts.{limits_size}
+use Rattle.boxed_problem.specs.BoxedFacts.{limits_size}
 use Rattle.boxed_problem.specs.declared.parts.Entry.{Entry}
 use Rattle.capped_num.specs.Capped.{capped}
 use Rattle.smps_words.specs.declared.core_file.Core.{Core}
@@ -16,7 +16,7 @@ use Rattle.stoch_lines.specs.declared.places.StochPlace.TheVariants.{Cost, Cell,
 use Rattle.scenario_lists.specs.Live.{entry_count, live_scenarios}
 use Rattle.scenario_lists.specs.ScenarioList.{count_of, scenarios_of}
 use Rattle.scenario_lists.specs.declared.data.ScenarioData.{ScenarioData}
-use Rattle.sp_model.specs.Facts.{RunFacts}
+use Rattle.sp_model.specs.RunFacts.{RunFacts}
 use Rattle.sp_model.specs.Reaching.{run_reach}
 use Rattle.sp_model.specs.Changes.{limits_of}
 use Rattle.sp_model.specs.declared.program.Change.{Change}
@@ -29,12 +29,12 @@ use Rattle.sp_model.specs.declared.program.Scenario.{Scenario}
 use Rattle.reach_core.specs.Within.{NumbersWithin, change_size}
 use Rattle.reach_core.proofs.Within.{total_within, within}
 use Rattle.join_frame.specs.Sourcing.{AreNamed}
-use Rattle.join_numbers.specs.Unfit.{IsLargeChange, IsLargeColumn, IsLargeEntry, IsLargeRow, IsLargeScenario}
+use Rattle.join_numbers.specs.UnfitNumbers.{IsLargeChange, IsLargeColumn, IsLargeEntry, IsLargeRow, IsLargeScenario}
 use Rattle.join_words.specs.Boxes.{is_idle}
 use Rattle.join_words.specs.Framing.{Source, frame_of}
 use Rattle.join_words.specs.Joining.{IsRefused, IsTimely, source_of}
 use Rattle.join_words.specs.Parts.{Parts, firsts_of, parts_of}
-use Rattle.join_words.specs.RunOf.{change_at, change_of, column_of, has_many_cells, has_many_changes, has_many_listed, is_crowded, is_vast, is_wide, nonleaf_of, options_of, program_of, reach_of, scaled_cost, scaled_in, scenario_of, total_of}
+use Rattle.join_words.specs.RunOf.{change_at, change_of, column_of, has_many_cells, has_many_changes, has_many_listed, is_crowded, is_too_large, is_wide, nonleaf_of, options_of, program_of, reach_of, scaled_cost, scaled_in, scenario_of, total_of}
 use Rattle.join_words.specs.declared.fault.JoinFault.TheVariants.{Memory, Wide}
 use Rattle.join_words.specs.declared.frame.Frame.{Frame}
 use Rattle.smps_join.specs.Cutting.{cut_options}
@@ -129,20 +129,20 @@ module _ (core : Core) (periods : Periods) (stoch : Stoch) (options : Options) w
   large_total can large = omega (arith, large, ap unsigned_abs (total_is core periods stoch options), total_within (program_of source) (options_of source options) (total_of source) (nonleaf_of source) (has_reach core periods stoch options can))
 
   -- memory is asked for where neither an entry is early nor there are too many scenarios or cells
-  pub few_listed : is_vast source ≡ false → has_many_listed source ≡ false
+  pub few_listed : is_too_large source ≡ false → has_many_listed source ≡ false
   few_listed few = or_left_false (has_many_listed source) (has_many_changes source) few
 
-  pub memory_refused : IsTimely source → is_crowded source ≡ false → is_vast source ≡ false → IsRefused source options Memory
+  pub memory_refused : IsTimely source → is_crowded source ≡ false → is_too_large source ≡ false → IsRefused source options Memory
   memory_refused timely few cells = (timely, few, few_listed cells)
 
   -- a reach of 2^127 or more is refused by that number
-  pub wide_refused : IsTimely source → is_crowded source ≡ false → is_vast source ≡ false → 2 ^ 127 ≤ reach_of source options → IsRefused source options (Wide (2 ^ 127))
+  pub wide_refused : IsTimely source → is_crowded source ≡ false → is_too_large source ≡ false → 2 ^ 127 ≤ reach_of source options → IsRefused source options (Wide (2 ^ 127))
   wide_refused timely few cells large =
       let wide : 2 ^ 120 < reach_of source options = omega (arith, large) in
       (timely, few, cells, grind arith, omega (arith, large))
 
   -- a reach above 2^120 is refused, and one up to it isn't
-  pub reach_refused : (reach : ℕ) → IsTimely source → is_crowded source ≡ false → is_vast source ≡ false → reach ≡ capped (reach_of source options) → 2 ^ 120 < reach → IsRefused source options (Wide reach)
+  pub reach_refused : (reach : ℕ) → IsTimely source → is_crowded source ≡ false → is_too_large source ≡ false → reach ≡ capped (reach_of source options) → 2 ^ 120 < reach → IsRefused source options (Wide reach)
   reach_refused reach timely few cells is above =
       let wide : 2 ^ 120 < reach_of source options = omega (arith, is, above) in
       (timely, few, cells, grind arith, is)
@@ -199,11 +199,11 @@ module _ (core : Core) (periods : Periods) (stoch : Stoch) (options : Options) w
       ∙ (ap (λ n. has_many_cells (count_of stoch) (length core.columns) n nonleaf) c
       ∙ ap (λ n. has_many_cells (count_of stoch) (length core.columns) (length core.rows) n) d))
 
-  pub vast_by_cells : has_many_cells (count_of stoch) (length core.columns) (length core.rows) (nonleaf_of source) ≡ true → is_vast source ≡ true
+  pub vast_by_cells : has_many_cells (count_of stoch) (length core.columns) (length core.rows) (nonleaf_of source) ≡ true → is_too_large source ≡ true
   vast_by_cells h = ap (λ t. t || has_many_changes source) h
 
-  pub vast_by_changes : has_many_changes source ≡ true → is_vast source ≡ true
+  pub vast_by_changes : has_many_changes source ≡ true → is_too_large source ≡ true
   vast_by_changes h = or_right_true (has_many_cells (count_of stoch) (length core.columns) (length core.rows) (nonleaf_of source)) (has_many_changes source) h
 
-  pub not_vast : has_many_cells (count_of stoch) (length core.columns) (length core.rows) (nonleaf_of source) ≡ false → has_many_changes source ≡ false → is_vast source ≡ false
+  pub not_vast : has_many_cells (count_of stoch) (length core.columns) (length core.rows) (nonleaf_of source) ≡ false → has_many_changes source ≡ false → is_too_large source ≡ false
   not_vast h g = ap (λ t. t || has_many_changes source) h ∙ g

@@ -22,7 +22,7 @@ use Rattle.stoch_lines.specs.declared.places.StochEntry.{StochEntry}
 use Rattle.scenario_lists.specs.ScenarioList.{count_of, marks_of, scenarios_of}
 use Rattle.scenario_lists.specs.declared.data.ScenarioData.{ScenarioData}
 use Rattle.tree_core.specs.Marks.{tree_of}
-use Rattle.sp_model.specs.Facts.{CountFacts, IdleFacts, IsColumn, IsRow, IsScenario, OptionFacts, RunFacts, StageFacts, change_reach, change_value, is_change, is_same_place}
+use Rattle.sp_model.specs.RunFacts.{CountFacts, IdleFacts, IsColumn, IsRow, IsScenario, OptionFacts, RunFacts, StageFacts, change_reach, change_value, is_change, is_same_place}
 use Rattle.sp_model.specs.Reaching.{run_reach}
 use Rattle.sp_model.specs.declared.program.Change.{Change}
 use Rattle.sp_model.specs.declared.program.Change.TheVariants.{Cost, Cell, Limits}
@@ -36,7 +36,7 @@ use Rattle.join_words.specs.Boxes.{is_idle}
 use Rattle.join_words.specs.Framing.{frame_of}
 use Rattle.join_words.specs.Joining.{source_of}
 use Rattle.join_words.specs.Parts.{firsts_of, parts_of, row_at}
-use Rattle.join_words.specs.RunOf.{change_of, column_of, columns_of, entries_of, has_many_cells, is_crowded, is_vast, nonleaf_of, options_of, program_of, range_of, reach_of, row_of, rows_of, scaled_in, scenario_of, total_of}
+use Rattle.join_words.specs.RunOf.{change_of, column_of, columns_of, entries_of, has_many_cells, is_crowded, is_too_large, nonleaf_of, options_of, program_of, range_of, reach_of, row_of, rows_of, scaled_in, scenario_of, total_of}
 use Rattle.join_words.specs.declared.frame.Frame.{Frame}
 use Rattle.smps_join.specs.Joinable.{CanJoin}
 use Rattle.smps_join.specs.Unfit.{program_with}
@@ -206,7 +206,7 @@ pub at_most : (a b : ℕ) → nat_lt a b ≡ false → b ≤ a
 at_most a b h = grind arith
 
 -- the counts of the run
-counts_are : (core : Core) (periods : Periods) (stoch : Stoch) (options : Options) → CanJoin core periods stoch options → is_crowded (source_of core periods stoch options) ≡ false → is_vast (source_of core periods stoch options) ≡ false → CountFacts (program_with core periods stoch (frame_of (source_of core periods stoch options)) (scenarios_of stoch)) (nonleaf_of (source_of core periods stoch options))
+counts_are : (core : Core) (periods : Periods) (stoch : Stoch) (options : Options) → CanJoin core periods stoch options → is_crowded (source_of core periods stoch options) ≡ false → is_too_large (source_of core periods stoch options) ≡ false → CountFacts (program_with core periods stoch (frame_of (source_of core periods stoch options)) (scenarios_of stoch)) (nonleaf_of (source_of core periods stoch options))
 counts_are core periods stoch options can crowded vast =
     let source = source_of core periods stoch options in
     let frame = frame_of source in
@@ -278,7 +278,7 @@ scale_is places few =
     ((Decides-int_eq (pos (10 ^ places)) (pos (10 ^ get_or (range_with_len 0 10) places 0))).1 (ap (λ q. pos (10 ^ q)) (sym at)))
 
 -- the run of a join keeps the facts of a run
-pub run_is : (core : Core) (periods : Periods) (stoch : Stoch) (options : Options) → CanJoin core periods stoch options → is_crowded (source_of core periods stoch options) ≡ false → is_vast (source_of core periods stoch options) ≡ false → reach_of (source_of core periods stoch options) options ≤ 2 ^ 120 → RunFacts (program_of (source_of core periods stoch options)) (options_of (source_of core periods stoch options) options) (total_of (source_of core periods stoch options)) (nonleaf_of (source_of core periods stoch options))
+pub run_is : (core : Core) (periods : Periods) (stoch : Stoch) (options : Options) → CanJoin core periods stoch options → is_crowded (source_of core periods stoch options) ≡ false → is_too_large (source_of core periods stoch options) ≡ false → reach_of (source_of core periods stoch options) options ≤ 2 ^ 120 → RunFacts (program_of (source_of core periods stoch options)) (options_of (source_of core periods stoch options) options) (total_of (source_of core periods stoch options)) (nonleaf_of (source_of core periods stoch options))
 run_is core periods stoch options can crowded vast narrow =
     let source = source_of core periods stoch options in
     let frame = frame_of source in

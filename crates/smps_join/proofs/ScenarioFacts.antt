@@ -16,7 +16,7 @@ use Rattle.stoch_lines.specs.Places.{same_place}
 use Rattle.stoch_lines.specs.declared.places.StochEntry.{StochEntry}
 use Rattle.stoch_lines.specs.declared.places.StochPlace.{StochPlace}
 use Rattle.stoch_lines.specs.declared.places.StochPlace.TheVariants as place
-use Rattle.sp_model.specs.Facts.{are_limits, is_change, is_same_place}
+use Rattle.sp_model.specs.RunFacts.{are_limits, is_change, is_same_place}
 use Rattle.sp_model.specs.declared.program.Change.{Change}
 use Rattle.sp_model.specs.declared.program.Change.TheVariants.{Cost, Cell, Limits}
 use Rattle.smps_stoch.specs.StochFacts.{IsPlace}

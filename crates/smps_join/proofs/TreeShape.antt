@@ -11,7 +11,7 @@ use Rattle.smps_stoch.specs.declared.stoch.Stoch.{Stoch}
 use Rattle.scenario_lists.specs.Nesting.{HavePeriods}
 use Rattle.scenario_lists.specs.ScenarioList.{HaveAllParents, count_of, marks_of}
 use Rattle.scenario_lists.proofs.Nesting.{last_marks_differ, marks_long, marks_nested}
-use Rattle.sp_model.specs.Facts.{TreeFacts}
+use Rattle.sp_model.specs.RunFacts.{TreeFacts}
 
 -- marks of which no two are the same at the last stage
 abbrev AreApart : ℕ → List (List ℕ) → Type 0

@@ -4,7 +4,7 @@ use Rattle.smps_words.specs.declared.core_file.Core.{Core}
 use Rattle.smps_words.specs.declared.periods.Periods.{Periods}
 use Rattle.smps_stoch.specs.StochFacts.{StochFacts}
 use Rattle.smps_stoch.specs.declared.stoch.Stoch.{Stoch}
-use Rattle.sp_model.specs.Facts.{OptionFacts}
+use Rattle.sp_model.specs.RunFacts.{OptionFacts}
 use Rattle.sp_model.specs.declared.program.Options.{Options}
 
 -- options in their ranges, a core with a column, and a stoch file beside it

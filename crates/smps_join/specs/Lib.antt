@@ -7,6 +7,7 @@ pub mod Cutting
 pub use Rattle.capped_num.specs.Capped
 pub use Rattle.join_numbers.specs.Changing
 pub use Rattle.join_numbers.specs.Sizes
+pub use Rattle.join_numbers.specs.UnfitNumbers
 pub use Rattle.join_words.specs.Boxes
 pub use Rattle.join_words.specs.Framing
 pub use Rattle.join_words.specs.Joining
@@ -17,5 +18,5 @@ pub use Rattle.scenario_lists.specs.Live
 pub use Rattle.scenario_lists.specs.ScenarioList
 pub use Rattle.smps_stoch.specs.StochFacts
 pub use Rattle.smps_words.specs.Stages
-pub use Rattle.sp_model.specs.Facts
+pub use Rattle.sp_model.specs.RunFacts
 pub use Rattle.tree_core.specs.Marks

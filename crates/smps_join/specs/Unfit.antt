@@ -13,7 +13,7 @@ use Rattle.join_words.specs.Parts.{firsts_of, parts_of}
 use Rattle.join_words.specs.RunOf.{columns_of, entries_of, rows_of, scaled_cost, scenario_of}
 use Rattle.join_words.specs.declared.frame.Frame.{Frame}
 use Rattle.join_numbers.specs.Sizes.{IsLarge}
-use Rattle.join_numbers.specs.Unfit.{IsLargeColumn, IsLargeEntry, IsLargeRow, IsLargeScenario}
+use Rattle.join_numbers.specs.UnfitNumbers.{IsLargeColumn, IsLargeEntry, IsLargeRow, IsLargeScenario}
 
 -- the tree of the scenarios
 abbrev pub tree_in : Periods → Stoch → Tree

@@ -2,10 +2,10 @@ ghost use Rattle.std.specs.Prelude.{◌≡◌, ◌<◌, ◌≤◌, false, length
 ghost use Rattle.smps_stoch.specs.StochFacts.{StochFacts};
 ghost use Rattle.scenario_lists.specs.Live.{live_scenarios};
 ghost use Rattle.scenario_lists.specs.ScenarioList.{count_of};
-ghost use Rattle.sp_model.specs.Facts.{OptionFacts};
+ghost use Rattle.sp_model.specs.RunFacts.{OptionFacts};
 ghost use Rattle.join_words.specs.Framing.{frame_of};
 ghost use Rattle.join_words.specs.Joining.{IsTimely, Joins, source_of};
-ghost use Rattle.join_words.specs.RunOf.{has_many_cells, is_crowded, is_vast, nonleaf_of, options_of, program_of, total_of};
+ghost use Rattle.join_words.specs.RunOf.{has_many_cells, is_crowded, is_too_large, nonleaf_of, options_of, program_of, total_of};
 ghost use Rattle.smps_join.specs.Counting.{live_of};
 ghost use Rattle.smps_join.specs.Cutting.{cut_options};
 ghost use Rattle.smps_join.specs.Joinable.{CanJoin};
@@ -54,7 +54,7 @@ fn reached(
     requires can { CanJoin core.now periods.now stoch.now options.now }
     requires timely { IsTimely (source_of core.now periods.now stoch.now options.now) }
     requires few { is_crowded (source_of core.now periods.now stoch.now options.now) ≡ false }
-    requires cells { is_vast (source_of core.now periods.now stoch.now options.now) ≡ false }
+    requires cells { is_too_large (source_of core.now periods.now stoch.now options.now) ≡ false }
     requires program { program ≡ program_of (source_of core.now periods.now stoch.now options.now) }
     requires total { total ≡ total_of (source_of core.now periods.now stoch.now options.now) }
     requires nonleaf { nonleaf ≡ nonleaf_of (source_of core.now periods.now stoch.now options.now) }
@@ -89,7 +89,7 @@ fn weighed(
     requires can { CanJoin core.now periods.now stoch.now options.now }
     requires timely { IsTimely (source_of core.now periods.now stoch.now options.now) }
     requires few { is_crowded (source_of core.now periods.now stoch.now options.now) ≡ false }
-    requires cells { is_vast (source_of core.now periods.now stoch.now options.now) ≡ false }
+    requires cells { is_too_large (source_of core.now periods.now stoch.now options.now) ≡ false }
     requires frame { frame.now ≡ frame_of (source_of core.now periods.now stoch.now options.now) }
     requires listed { listed.now ≡ live_scenarios (live_of frame.now.sides) stoch.now }
     requires nonleaf { nonleaf ≡ nonleaf_of (source_of core.now periods.now stoch.now options.now) }

@@ -6,7 +6,7 @@ ghost use Rattle.stoch_lines.specs.declared.places.StochEntry.{StochEntry};
 ghost use Rattle.smps_stoch.specs.StochFacts.{IsPlace};
 ghost use Rattle.join_numbers.specs.Changing.{IsFrameOf};
 ghost use Rattle.join_numbers.specs.Sizes.{IsLarge};
-ghost use Rattle.join_numbers.specs.Unfit.{ByUnfit};
+ghost use Rattle.join_numbers.specs.UnfitNumbers.{ByUnfit};
 ghost use Rattle.join_words.specs.RunOf.{scaled_cost};
 ghost use Rattle.smps_join.specs.Unfit.{HasUnfit, program_with, tree_in};
 

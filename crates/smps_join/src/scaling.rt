@@ -1,7 +1,7 @@
 ghost use Rattle.std.specs.Prelude.{◌≡◌, ◌≤◌, ◌<◌, IfOk, length};
 ghost use Rattle.std.specs.List.{All};
 ghost use Rattle.smps_stoch.specs.StochFacts.{StochFacts};
-ghost use Rattle.sp_model.specs.Facts.{OptionFacts};
+ghost use Rattle.sp_model.specs.RunFacts.{OptionFacts};
 ghost use Rattle.join_words.specs.Framing.{frame_of};
 ghost use Rattle.join_words.specs.Joining.{source_of};
 

@@ -19,7 +19,7 @@ use Rattle.stoch_lines.specs.Places.{same_place}
 use Rattle.stoch_lines.specs.declared.entries.Owned.{Owned}
 use Rattle.stoch_lines.specs.declared.places.StochEntry.{StochEntry}
 use Rattle.stoch_lines.specs.declared.places.StochPlace.{StochPlace}
-use Rattle.smps_stoch.specs.LawWords.{some_of, some_other, value_of, AreClean, LastTellsAll}
+use Rattle.smps_stoch.specs.LawWords.{some_of, some_other, value_at_place, AreClean, LastTellsAll}
 use Rattle.smps_stoch.specs.SaidFacts.{GoesOnWell, SaidFacts}
 use Rattle.smps_stoch.specs.StochFacts.{AreOfTwoPlaces}
 use Rattle.smps_stoch.proofs.EntryLines.{goes_on_after}
@@ -99,7 +99,7 @@ module _ (core : Core) (periods : Periods) (lines : List TextLine) (clean : AreC
       }
 
 -- the value of a place is that of its one entry
-pub own_value : (entries : List StochEntry) (entry : StochEntry) → AllPairs AreOfTwoPlaces entries → Contains entries entry → value_of entry.place entries ≡ Some entry.value
+pub own_value : (entries : List StochEntry) (entry : StochEntry) → AllPairs AreOfTwoPlaces entries → Contains entries entry → value_at_place entry.place entries ≡ Some entry.value
 own_value entries entry once (k, lt, at) =
     let p = λ (e : StochEntry). same_place e.place entry.place in
     let first : position_or_len p entries ≡ k =

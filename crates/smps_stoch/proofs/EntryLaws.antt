@@ -15,7 +15,7 @@ use Rattle.smps_words.specs.TextLines.{TextLine, field}
 use Rattle.smps_words.specs.declared.core_file.Core.{Core}
 use Rattle.stoch_lines.proofs.Positions.{position_below}
 use Rattle.stoch_lines.specs.Faults.{number_fault, pair_fault}
-use Rattle.stoch_lines.specs.Places.{is_right_name, place_of, place_of_first, place_on_right}
+use Rattle.stoch_lines.specs.Places.{is_right_name, stoch_place, place_of_first, place_on_right}
 use Rattle.stoch_lines.specs.Sayings.{entry_at, place_at}
 use Rattle.stoch_lines.specs.declared.kinds.StochKind.TheVariants.{Unknown}
 use Rattle.stoch_lines.specs.declared.places.StochPlace.{StochPlace}
@@ -71,7 +71,7 @@ module _ (core : Core) where
       in_column column row (bytes_eq row core.objective) (subst (λ (n : ℕ). column < n) core.facts.named_columns (position_below (bytes_eq first) core.column_names column is))
   of_first first row None is = on_right row (is_right_name core first)
 
-  there : (first row : List ℕ) → IsThere (place_of core first row)
+  there : (first row : List ℕ) → IsThere (stoch_place core first row)
   there first row = of_first first row (position (bytes_eq first) core.column_names) refl
 
   unwrapped : (place : Option StochPlace) (other : StochPlace) → IsThere place → is_none place ≡ false → IsPlace core (unwrap_or place other)

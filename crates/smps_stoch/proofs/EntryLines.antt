@@ -12,7 +12,7 @@ use Rattle.smps_words.specs.declared.core_file.Core.{Core}
 use Rattle.smps_words.specs.declared.periods.Periods.{Periods}
 use Rattle.stoch_lines.specs.Before.{Before, next}
 use Rattle.stoch_lines.specs.Faults.{block_data_fault, block_fault, branching_stage, data_fault, has_mode, header_fault, indep_fault, indep_form, indep_rules, is_end, is_repeated, is_taken, is_twice_in_block, line_fault, may_follow, named_fault, own_period, pair_fault, pairs_fault, places_at, places_rules, probability_fault, scenario_data_fault, scenario_fault, section_fault}
-use Rattle.stoch_lines.specs.Places.{anticipates, stage_of}
+use Rattle.stoch_lines.specs.Places.{anticipates, stage_of_place}
 use Rattle.stoch_lines.specs.Sayings.{begins_block, begins_scenario, block_saying, chosen_by, element_of, entries_at, entries_in, entry_at, heading_of, indep_saying, is_scenarios, last_element, last_field, named_period, owned_by, saying_in, scenario_head}
 use Rattle.stoch_lines.specs.declared.entries.Owned.{Owned}
 use Rattle.stoch_lines.specs.declared.heading.Heading.{Heading}
@@ -55,8 +55,8 @@ module _ (core : Core) (periods : Periods) (b : Before) (line : TextLine) where
 
   not_twice : (earliest : ℕ) (twice : Bool) (places : List StochPlace) → places_rules periods earliest twice places ≡ None → twice ≡ false
   not_twice earliest twice places none =
-      let one = first_none (list_any (anticipates periods) places) Anticipates ((list_any (λ place. nat_lt (stage_of periods place) earliest) places, EarlyEntry) ∷ (twice, Twice) ∷ []) none in
-      let two = first_none (list_any (λ place. nat_lt (stage_of periods place) earliest) places) EarlyEntry ((twice, Twice) ∷ []) one.1 in
+      let one = first_none (list_any (anticipates periods) places) Anticipates ((list_any (λ place. nat_lt (stage_of_place periods place) earliest) places, EarlyEntry) ∷ (twice, Twice) ∷ []) none in
+      let two = first_none (list_any (λ place. nat_lt (stage_of_place periods place) earliest) places) EarlyEntry ((twice, Twice) ∷ []) one.1 in
       (first_none twice Twice [] two.1).0
 
   abbrev Kept : List Chosen → List ScenarioHead → List Owned → Type 0
@@ -82,8 +82,8 @@ module _ (core : Core) (periods : Periods) (b : Before) (line : TextLine) where
       let parts = or_none (indep_form core periods line) (indep_rules periods b place named saying) none in
       let form = or_none (first_true ((not ((field_count line == 4) || (field_count line == 5)), Fields) ∷ [])) (pair_fault core 1 line or (named_fault periods line or probability_fault (last_field line))) parts.0 in
       let rest = or_none (pair_fault core 1 line) (named_fault periods line or probability_fault (last_field line)) form.1 in
-      let one = first_none (anticipates periods place) Anticipates (((period == 1) || nat_lt (stage_of periods place) period, EarlyEntry) ∷ (not (unwrap_or named period == period), Clash) ∷ (is_taken b.entries element place, Twice) ∷ []) parts.1 in
-      let two = first_none ((period == 1) || nat_lt (stage_of periods place) period) EarlyEntry ((not (unwrap_or named period == period), Clash) ∷ (is_taken b.entries element place, Twice) ∷ []) one.1 in
+      let one = first_none (anticipates periods place) Anticipates (((period == 1) || nat_lt (stage_of_place periods place) period, EarlyEntry) ∷ (not (unwrap_or named period == period), Clash) ∷ (is_taken b.entries element place, Twice) ∷ []) parts.1 in
+      let two = first_none ((period == 1) || nat_lt (stage_of_place periods place) period) EarlyEntry ((not (unwrap_or named period == period), Clash) ∷ (is_taken b.entries element place, Twice) ∷ []) one.1 in
       let three = first_none (not (unwrap_or named period == period)) Clash ((is_taken b.entries element place, Twice) ∷ []) two.1 in
       let free = (first_none (is_taken b.entries element place) Twice [] three.1).0 in
       let long : length (b.realisations ++ chosen ∷ []) ≡ length b.realisations + 1 = length-append b.realisations (chosen ∷ []) in

@@ -17,7 +17,7 @@ use Rattle.smps_words.specs.Tables.{first_true, ◌or◌}
 use Rattle.smps_words.specs.declared.periods.Periods.{Periods}
 use Rattle.stoch_lines.proofs.Positions.{position_below}
 use Rattle.stoch_lines.specs.Faults.{is_probability, period_fault, probability_fault, number_fault}
-use Rattle.stoch_lines.specs.Places.{period_of, stage_of}
+use Rattle.stoch_lines.specs.Places.{period_of, stage_of_place}
 use Rattle.stoch_lines.specs.declared.kinds.StochKind.TheVariants.{Weight, Unknown}
 use Rattle.stoch_lines.specs.declared.places.StochPlace.{StochPlace}
 use Rattle.stoch_lines.specs.declared.places.StochPlace.TheVariants.{Cost, Cell, Right}
@@ -93,7 +93,7 @@ stage_period periods firsts number long first =
     let below = count_by-le-length (λ f. nat_le f number) firsts in
     (begun firsts number (omega (arith, some, long)) first, omega (arith, below, long))
 
-pub stage_is_period : (periods : Periods) (place : StochPlace) → IsPeriod periods (stage_of periods place)
+pub stage_is_period : (periods : Periods) (place : StochPlace) → IsPeriod periods (stage_of_place periods place)
 stage_is_period periods (Cost column) = stage_period periods periods.columns column periods.facts.with_columns periods.facts.first_column
 stage_is_period periods (Cell row column) = stage_period periods periods.rows row periods.facts.with_rows periods.facts.first_row
 stage_is_period periods (Right row) = stage_period periods periods.rows row periods.facts.with_rows periods.facts.first_row

@@ -1,16 +1,16 @@
-pub mod Answering
-pub mod AnyEntry
-pub mod ByElement
-pub mod Entries
-pub mod EntryLaws
-pub mod EntryLines
-pub mod FieldLaws
-pub mod Filling
-pub mod LastEntries
-pub mod OwnEntries
-pub mod Owning
-pub mod PlacesOnce
-pub mod SaidLaws
-pub mod Saying
-pub mod StochLaws
-pub mod Weighing
+mod Answering
+mod AnyEntry
+mod ByElement
+mod Entries
+mod EntryLaws
+mod EntryLines
+mod FieldLaws
+mod Filling
+mod LastEntries
+mod OwnEntries
+mod Owning
+mod PlacesOnce
+mod SaidLaws
+mod Saying
+mod StochLaws
+mod Weighing

@@ -4,7 +4,7 @@ use Rattle.std.specs.Prelude.{fold, if◌then◌else◌, position}
 use Rattle.std.specs.List.{list_any, position_or_len}
 use Rattle.std.proofs.lemmas.List.{append-nil, get_or_append_left, get_or_at, get_or_past}
 use Rattle.std.proofs.lemmas.List.Elements.{All-nil, All-push}
-use Rattle.line_core.specs.Lines.{lines_of}
+use Rattle.line_core.specs.SplitLines.{lines_of}
 use Rattle.line_core.specs.declared.line_list.Line.{Line}
 use Rattle.line_core.specs.declared.line_list.LineFault.{LineFault}
 use Rattle.line_core.specs.declared.line_list.LineFault.TheVariants as line_faults

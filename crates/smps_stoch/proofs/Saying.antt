@@ -9,7 +9,7 @@ use Rattle.smps_words.specs.declared.periods.Periods.{Periods}
 use Rattle.stoch_lines.proofs.Positions.{position_below}
 use Rattle.stoch_lines.specs.Before.{Before}
 use Rattle.stoch_lines.specs.Faults.{block_data_fault, block_fault, block_form, block_rules, data_fault, header_fault, indep_fault, indep_form, indep_rules, is_root, is_scenario, is_taken, line_fault, max_scenarios, named_fault, own_period, pair_fault, period_fault, probability_fault, scenario_data_fault, scenario_fault, scenario_form, scenario_numbers}
-use Rattle.stoch_lines.specs.Places.{anticipates, period_of, stage_of}
+use Rattle.stoch_lines.specs.Places.{anticipates, period_of, stage_of_place}
 use Rattle.stoch_lines.specs.Sayings.{begins_block, begins_scenario, block_saying, element_of, entry_at, indep_saying, is_scenarios, last_field, named_period, saying_in, sayings, scenario_head, scenario_heads, scenario_names}
 use Rattle.stoch_lines.specs.declared.heading.Heading.{Heading}
 use Rattle.stoch_lines.specs.declared.heading.Heading.TheVariants.{Indep, Blocks, Scenarios}
@@ -55,12 +55,12 @@ module _ (core : Core) (periods : Periods) (b : Before) (line : TextLine) where
       let form = or_none (first_true ((not ((field_count line == 4) || (field_count line == 5)), Fields) ∷ [])) (pair_fault core 1 line or (named_fault periods line or probability_fault (last_field line))) parts.0 in
       let rest = or_none (pair_fault core 1 line) (named_fault periods line or probability_fault (last_field line)) form.1 in
       let ends = or_none (named_fault periods line) (probability_fault (last_field line)) rest.1 in
-      let rules = first_none (anticipates periods place) Anticipates (((period == 1) || nat_lt (stage_of periods place) period, EarlyEntry) ∷ (not (unwrap_or named period == period), Clash) ∷ (is_taken b.entries (element_of b.sources saying.source) place, Twice) ∷ []) parts.1 in
-      let early = first_none ((period == 1) || nat_lt (stage_of periods place) period) EarlyEntry ((not (unwrap_or named period == period), Clash) ∷ (is_taken b.entries (element_of b.sources saying.source) place, Twice) ∷ []) rules.1 in
+      let rules = first_none (anticipates periods place) Anticipates (((period == 1) || nat_lt (stage_of_place periods place) period, EarlyEntry) ∷ (not (unwrap_or named period == period), Clash) ∷ (is_taken b.entries (element_of b.sources saying.source) place, Twice) ∷ []) parts.1 in
+      let early = first_none ((period == 1) || nat_lt (stage_of_place periods place) period) EarlyEntry ((not (unwrap_or named period == period), Clash) ∷ (is_taken b.entries (element_of b.sources saying.source) place, Twice) ∷ []) rules.1 in
       record {
         probable = probable (last_field line) ends.1;
-        period = said_period (field_count line == 5) ends.0 (stage_of periods place) (stage_is_period periods place);
-        later = either_false (period == 1) (nat_lt (stage_of periods place) period) early.0;
+        period = said_period (field_count line == 5) ends.0 (stage_of_place periods place) (stage_is_period periods place);
+        later = either_false (period == 1) (nat_lt (stage_of_place periods place) period) early.0;
       }
 
   block_well : block_fault periods b line ≡ None → SaysWell periods b (block_saying periods b.blocks line)

@@ -3,7 +3,7 @@ use Rattle.std.specs.Prelude.{◌≡◌, ◌↔◌, ℕ, ◌+◌, ◌<◌, ◌�
 use Rattle.std.specs.List.{list_any}
 use Rattle.std.specs.Option.{option_map, option_or}
 use Rattle.dec_core.specs.declared.decimal.Decimal.{Decimal}
-use Rattle.smps_words.specs.Places.{CleanTo}
+use Rattle.smps_words.specs.FirstPlaces.{CleanTo}
 use Rattle.smps_words.specs.TextLines.{TextLine}
 use Rattle.smps_words.specs.declared.core_file.Core.{Core}
 use Rattle.smps_words.specs.declared.periods.Periods.{Periods}
@@ -59,8 +59,8 @@ pub record AreByElement (said : List Saying) (chosen : List Chosen) : Type 0 whe
   pub one : (i j : ℕ) → i < length said → j < length said → IsOneElement said chosen i j
 
 -- the value of a place in the entries of a realisation or scenario, if they have one
-abbrev pub value_of : StochPlace → List StochEntry → Option Decimal
-value_of place entries = option_map (λ e. e.value) (find (λ e. same_place e.place place) entries)
+abbrev pub value_at_place : StochPlace → List StochEntry → Option Decimal
+value_at_place place entries = option_map (λ e. e.value) (find (λ e. same_place e.place place) entries)
 
 -- the entries of an element's first realisation
 abbrev pub first_entries : Element → List StochEntry
@@ -69,4 +69,4 @@ first_entries element = (slice_index_or element.realisations 0 no_realisation).e
 -- the value of a place in a realisation of an element: its own, or else the first realisation's; where there is none, the core's holds
 abbrev pub value_in : Element → Realisation → StochPlace → Option Decimal
 value_in element realisation place =
-    option_or (value_of place realisation.entries) (value_of place (first_entries element))
+    option_or (value_at_place place realisation.entries) (value_at_place place (first_entries element))

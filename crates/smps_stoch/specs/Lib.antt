@@ -7,6 +7,7 @@ pub mod StochMeaning
 pub use Rattle.dec_core.specs.DecimalValue
 pub use Rattle.dec_core.specs.Scale
 pub use Rattle.smps_words.specs.CoreFacts
+pub use Rattle.smps_words.specs.FirstPlaces
 pub use Rattle.smps_words.specs.Memory
 pub use Rattle.smps_words.specs.TextLines
 pub use Rattle.stoch_lines.specs.Before

@@ -7,7 +7,7 @@ ghost use Rattle.stoch_lines.specs.Before.{before_of, realisations_of, sayings_o
 ghost use Rattle.stoch_lines.specs.declared.places.StochEntry.{StochEntry};
 ghost use Rattle.stoch_lines.specs.declared.places.StochPlace.{StochPlace};
 ghost use Rattle.stoch_lines.specs.declared.entries.Owned.{Owned};
-ghost use Rattle.smps_stoch.specs.LawWords.{first_entries, value_in, value_of, AreByElement, AreClean, LastTellsAll};
+ghost use Rattle.smps_stoch.specs.LawWords.{first_entries, value_in, value_at_place, AreByElement, AreClean, LastTellsAll};
 ghost use Rattle.smps_stoch.specs.StochData.{entries_at};
 ghost use Rattle.smps_stoch.specs.StochFacts.{EntryFacts};
 ghost use Rattle.smps_stoch.specs.declared.stoch.Element.{Element};
@@ -41,7 +41,7 @@ pub fn last_entries_tell_all()
 /// entry, or else that of the element's first realisation.
 pub fn values_are_own_or_first()
     ensures own { (core : Core) (entries : List StochEntry) (entry : StochEntry) →
-        EntryFacts core entries → Contains entries entry → value_of entry.place entries ≡ Some entry.value }
+        EntryFacts core entries → Contains entries entry → value_at_place entry.place entries ≡ Some entry.value }
     ensures first { (element : Element) (realisation : Realisation) (place : StochPlace) →
-        value_of place realisation.entries ≡ None → value_in element realisation place ≡ value_of place (first_entries element) }
+        value_at_place place realisation.entries ≡ None → value_in element realisation place ≡ value_at_place place (first_entries element) }
 {}

@@ -4,7 +4,7 @@ use Rattle.smps_words.proofs.Asking.{lines_ask}
 use Rattle.smps_words.specs.Memory.{MayRefuse}
 use Rattle.std.proofs.Common.{◌≡◌, ℕ, ◌+◌, ◌<◌, List, ◌∷◌, length, drop, get_or, Option, Result, Ok, Err, IfOk, IfErr, ap, sym, subst, ◌∙◌, arith, []}
 use Rattle.std.proofs.lemmas.List.{drop_more}
-use Rattle.line_core.specs.Lines.{lines_of}
+use Rattle.line_core.specs.SplitLines.{lines_of}
 use Rattle.line_core.specs.declared.line_list.Line.{Line}
 use Rattle.smps_words.specs.Outcomes.{Outcome, answer_of, judged}
 use Rattle.smps_words.specs.Outcomes.Outcome.{Faulty, Ended}

@@ -1,4 +1,4 @@
-pub mod Adding
-pub mod Answering
-pub mod Facts
-pub mod Rising
+mod Adding
+mod Answering
+mod Facts
+mod Rising

@@ -2,12 +2,12 @@ pub mod Reading
 pub mod TimeAnswers
 pub mod TimeFile
 pub use Rattle.line_core.specs.Fields
-pub use Rattle.line_core.specs.Lines
+pub use Rattle.line_core.specs.SplitLines
 pub use Rattle.line_core.specs.Names
 pub use Rattle.smps_words.specs.CoreFacts
 pub use Rattle.smps_words.specs.Memory
 pub use Rattle.smps_words.specs.Outcomes
 pub use Rattle.smps_words.specs.PeriodFacts
-pub use Rattle.smps_words.specs.Places
+pub use Rattle.smps_words.specs.FirstPlaces
 pub use Rattle.smps_words.specs.Tables
 pub use Rattle.smps_words.specs.TextLines

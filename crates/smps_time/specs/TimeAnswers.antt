@@ -1,6 +1,6 @@
 -- What reading a time file answers.
 use Rattle.std.specs.Prelude.{◌≡◌, ℕ, ◌-◌, List, [], map, Result, Ok, Err}
-use Rattle.line_core.specs.Lines.{lines_of}
+use Rattle.line_core.specs.SplitLines.{lines_of}
 use Rattle.line_core.specs.declared.line_list.Line.{Line}
 use Rattle.line_core.specs.declared.line_list.LineFault.{LineFault}
 use Rattle.line_core.specs.declared.line_list.LineFault.TheVariants as lines

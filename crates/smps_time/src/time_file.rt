@@ -1,7 +1,7 @@
 ghost use Rattle.std.specs.Prelude.{◌≡◌, ◌≤◌, [], length, Err, List, IfErr, IfOk};
 ghost use Rattle.smps_words.specs.Memory.{MayRefuse};
 ghost use Rattle.smps_words.specs.PeriodFacts.{min_periods};
-ghost use Rattle.smps_words.specs.Places.{Says};
+ghost use Rattle.smps_words.specs.FirstPlaces.{Says};
 ghost use Rattle.smps_words.specs.TextLines.{TextLine, last_number, text_lines};
 ghost use Rattle.smps_time.specs.Reading.{before_in, Keeps, ReadsLines};
 ghost use Rattle.smps_time.specs.TimeAnswers.{data_of, names_of, periods_in, rows_at, time_meaning, time_outcome, Gives};

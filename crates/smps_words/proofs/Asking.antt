@@ -2,7 +2,7 @@
 use Rattle.std.proofs.Common.{◌≡◌, refl, ℕ, true, List, [], ◌∷◌, length, ◌<◌, ◌∙◌, subst, arith}
 use Rattle.std.specs.Prelude.{Option, Some, None, Result, Ok, Err}
 use Rattle.std.specs.List.{slice_split}
-use Rattle.line_core.specs.Lines.{after_lines, fault_or_lines, has_line, is_newline, lines_of, read_parts}
+use Rattle.line_core.specs.SplitLines.{after_lines, fault_or_lines, has_line, is_newline, lines_of, read_parts}
 use Rattle.line_core.specs.declared.line_list.Line.{Line}
 use Rattle.line_core.specs.declared.line_list.LineFault.{LineFault}
 use Rattle.smps_words.specs.Memory.{MayRefuse}

@@ -2,7 +2,7 @@
 use Rattle.std.proofs.Common.{◌≡◌, refl, ℕ, suc, zero, List, [], ◌∷◌, map, get_or}
 use Rattle.std.specs.Prelude.{slice_get}
 use Rattle.line_core.specs.Fields.{span_text}
-use Rattle.line_core.specs.Lines.{option_text}
+use Rattle.line_core.specs.SplitLines.{option_text}
 use Rattle.line_core.specs.declared.field_list.Span.{Span}
 
 pub field_is : (bytes : List ℕ) (fields : List Span) (k : ℕ) → option_text bytes (slice_get fields k) ≡ get_or (map (span_text bytes) fields) k []

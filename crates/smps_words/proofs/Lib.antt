@@ -1,7 +1,7 @@
 pub mod Asking
-pub mod Fields
+mod Fields
 pub mod FoldLaw
 pub mod PeriodStages
 pub mod PlaceLaw
-pub mod StageLaws
+mod StageLaws
 pub mod ToldLaws

@@ -3,7 +3,7 @@ use Rattle.std.proofs.Common.{◌≡◌, refl, ap, ◌∙◌, sym, subst, ℕ, �
 use Rattle.std.proofs.lemmas.List.{append-nil, take_at, take_more, get_or_at}
 use Rattle.std.specs.Prelude.{Option, Some, None}
 use Rattle.smps_words.specs.Outcomes.{Outcome, judged, outcome}
-use Rattle.smps_words.specs.Places.{IsAt, CleanTo, Says}
+use Rattle.smps_words.specs.FirstPlaces.{IsAt, CleanTo, Says}
 
 -- a list of lines with one of them between the lines before it and those behind it
 there : {L : Type 0} (before : List L) (line : L) (rest : List L) → IsAt (before ++ line ∷ rest) (length before) line

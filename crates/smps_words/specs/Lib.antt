@@ -3,11 +3,11 @@ pub mod Memory
 pub mod NumberFields
 pub mod Outcomes
 pub mod PeriodFacts
-pub mod Places
+pub mod FirstPlaces
 pub mod Stages
 pub mod Tables
 pub mod TextLines
 pub use Rattle.dec_core.specs.DecimalValue
 pub use Rattle.line_core.specs.Fields
-pub use Rattle.line_core.specs.Lines
+pub use Rattle.line_core.specs.SplitLines
 pub use Rattle.line_core.specs.Names

@@ -37,9 +37,9 @@ answer_of data_of last no_end (Ended before) = Ok (data_of before)
 answer_of data_of last no_end Endless = Err (last, no_end)
 
 -- all that the lines tell, one after another, each by the lines before it
-abbrev pub told : {L X : Type 0} → (List L → L → List X) → List L → List L → List X
-told tells before [] = []
-told tells before (line ∷ rest) = tells before line ++ told tells (before ++ line ∷ []) rest
+abbrev pub all_told : {L X : Type 0} → (List L → L → List X) → List L → List L → List X
+all_told tells before [] = []
+all_told tells before (line ∷ rest) = tells before line ++ all_told tells (before ++ line ∷ []) rest
 
 -- the last of the items, or another value where there is none
 abbrev pub last_or : {X : Type 0} → X → List X → X

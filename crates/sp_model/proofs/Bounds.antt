@@ -12,7 +12,7 @@ use Rattle.base_words.specs.ListSums.{sum_z}
 use Rattle.base_words.specs.Sums.{number_at, size_below}
 use Rattle.base_words.proofs.ListSums.{sum_z-cons}
 use Rattle.base_words.proofs.Magnitudes.{fits_from_abs}
-use Rattle.boxed_problem.specs.Facts.{column_size, row_size, value_size}
+use Rattle.boxed_problem.specs.BoxedFacts.{column_size, row_size, value_size}
 use Rattle.sp_model.specs.Changes.{Data, all_data, core_data, data_of, side_of, sides}
 use Rattle.sp_model.specs.Problems.{data_at, factor_of, no_scenario, problem_in, scenario_at, scenarios}
 use Rattle.sp_model.specs.Reaching.{box_reach, cost_reach, data_reach, greatest, hedge_reach, line_reach, raw_reach, rows_reach, run_reach}

@@ -9,7 +9,7 @@ use Rattle.boxed_problem.specs.declared.parts.Entry.{Entry}
 use Rattle.boxed_problem.specs.declared.parts.Limits.{Limits as BothLimits}
 use Rattle.sp_model.specs.Changes.{Data, cell_of, cells_of, core_data, limits_of, put_entries, with_change}
 use Rattle.sp_model.specs.Drafts.{has_column, has_row, with_cost, with_limits}
-use Rattle.sp_model.specs.Facts.{are_limits, is_change}
+use Rattle.sp_model.specs.RunFacts.{are_limits, is_change}
 use Rattle.sp_model.specs.declared.program.Change.{Change}
 use Rattle.sp_model.specs.declared.program.Change.TheVariants.{Cost, Cell, Limits}
 

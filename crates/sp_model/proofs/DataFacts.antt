@@ -13,11 +13,11 @@ use Rattle.base_words.specs.Sums.{number_at}
 use Rattle.base_words.proofs.Comparisons.{both_left, both_right}
 use Rattle.base_words.proofs.Magnitudes.{fits_from_abs}
 use Rattle.base_words.proofs.SumBounds.{size_below-part}
-use Rattle.boxed_problem.specs.Facts.{IsBoxed}
+use Rattle.boxed_problem.specs.BoxedFacts.{IsBoxed}
 use Rattle.boxed_problem.specs.declared.parts.Entry.{Entry}
 use Rattle.boxed_problem.specs.declared.parts.Side.{Side}
 use Rattle.sp_model.specs.Changes.{Data, core_data, data_of, limits_of, place_of, put_entry, side_of, stands_at, with_change}
-use Rattle.sp_model.specs.Facts.{change_reach, change_value, is_change}
+use Rattle.sp_model.specs.RunFacts.{change_reach, change_value, is_change}
 use Rattle.sp_model.specs.Plans.{no_column}
 use Rattle.sp_model.specs.Problems.{data_at, factor_of, no_scenario, problem_in, scenario_at, scenarios}
 use Rattle.sp_model.specs.Reaching.{box_reach, cost_reach}

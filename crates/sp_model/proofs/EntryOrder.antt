@@ -2,7 +2,7 @@
 
 use Rattle.std.proofs.Common.{arith, refl, sym, ap, subst, ◌∙◌, ◌≡◌, ℕ, zero, suc, ◌+◌, ◌<◌, ◌==◌, nat_lt, Bool, true, false, cond, ◌&&◌, List, [], ◌∷◌, length, get_or, set, if◌then◌else◌}
 use Rattle.std.specs.List.{insert}
-use Rattle.boxed_problem.specs.Facts.{ComesBefore, entry_at, no_entry}
+use Rattle.boxed_problem.specs.BoxedFacts.{ComesBefore, entry_at, no_entry}
 use Rattle.boxed_problem.specs.declared.parts.Entry.{Entry}
 use Rattle.sp_model.specs.Changes.{is_at, is_before, place_of, put_entry, stands_at}
 

@@ -2,8 +2,8 @@ pub mod Duality
 pub mod SumSome
 pub mod EntryOrder
 pub mod Putting
-pub mod MergeSteps
-pub mod Cells
+mod MergeSteps
+mod Cells
 pub mod Sizes
 pub mod Bounds
 pub mod DataFacts

@@ -7,10 +7,10 @@ use Rattle.std.proofs.lemmas.List.{length-map}
 use Rattle.std.proofs.lemmas.List.Elements.{recursion_from_All}
 use Rattle.base_words.specs.Sums.{number_at}
 use Rattle.base_words.proofs.Comparisons.{both, both_left, left_fails, right_fails}
-use Rattle.boxed_problem.specs.Facts.{limits_at, no_limits}
+use Rattle.boxed_problem.specs.BoxedFacts.{limits_at, no_limits}
 use Rattle.boxed_problem.specs.declared.parts.Entry.{Entry}
 use Rattle.sp_model.specs.Changes.{Data, core_data, data_of, is_at, is_before, limits_of, put_entry, with_change}
-use Rattle.sp_model.specs.Facts.{IsScenario, are_limits, is_change, is_same_place}
+use Rattle.sp_model.specs.RunFacts.{IsScenario, are_limits, is_change, is_same_place}
 use Rattle.sp_model.specs.Values.{Has, IsUntouched, SameAt, cell_in, is_cell}
 use Rattle.sp_model.specs.declared.program.Change.{Change}
 use Rattle.sp_model.specs.declared.program.Change.TheVariants.{Cost, Cell, Limits}

@@ -2,7 +2,7 @@
 
 use Rattle.std.proofs.Common.{arith, refl, sym, ap, subst, ◌∙◌, ◌≡◌, ℕ, ◌<◌, ◌==◌, nat_lt, Bool, true, false, ◌&&◌, List, [], ◌∷◌, ◌++◌, if◌then◌else◌}
 use Rattle.std.specs.List.{AllByRecursion}
-use Rattle.boxed_problem.specs.Facts.{ComesBefore}
+use Rattle.boxed_problem.specs.BoxedFacts.{ComesBefore}
 use Rattle.boxed_problem.specs.declared.parts.Entry.{Entry}
 use Rattle.sp_model.specs.Changes.{is_at, is_before, put_entries, put_entry}
 use Rattle.sp_model.proofs.EntryOrder.{after_is, before_is, IsChain, over_head, put_behind, put_chain, put_front, put_over, same_place}

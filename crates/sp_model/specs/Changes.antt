@@ -2,7 +2,7 @@
 
 use Rattle.std.specs.Prelude.{ℕ, ◌+◌, ◌<◌, ◌==◌, ◌&&◌, nat_lt, Bool, List, [], ◌∷◌, ◌++◌, length, map, ℤ, slice_set, slice_index_or, if◌then◌else◌}
 use Rattle.std.specs.List.{fold, insert, prefix_len}
-use Rattle.boxed_problem.specs.Facts.{ComesBefore, entry_at, no_entry}
+use Rattle.boxed_problem.specs.BoxedFacts.{ComesBefore, entry_at, no_entry}
 use Rattle.boxed_problem.specs.declared.parts.Entry.{Entry}
 use Rattle.boxed_problem.specs.declared.parts.Limits.{Limits}
 use Rattle.boxed_problem.specs.declared.parts.Side.{Side}

@@ -1,6 +1,6 @@
 pub mod Changes
 pub mod Drafts
-pub mod Facts
+pub mod RunFacts
 pub mod Plans
 pub mod Problems
 pub mod Reaching
@@ -8,6 +8,7 @@ pub mod Values
 pub mod ScenarioPoints
 pub use Rattle.base_words.specs.ListSums
 pub use Rattle.base_words.specs.Sums
+pub use Rattle.boxed_problem.specs.BoxedFacts
 pub use Rattle.boxed_problem.specs.Data
 pub use Rattle.boxed_problem.specs.Objective
 pub use Rattle.boxed_problem.specs.Optimum

@@ -3,7 +3,7 @@
 use Rattle.std.specs.Prelude.{ℕ, ◌+◌, ◌*◌, max, List, length, map, ℤ, unsigned_abs}
 use Rattle.std.specs.List.{fold, range_with_len}
 use Rattle.base_words.specs.Sums.{number_at, size_below}
-use Rattle.boxed_problem.specs.Facts.{row_size}
+use Rattle.boxed_problem.specs.BoxedFacts.{row_size}
 use Rattle.boxed_problem.specs.Sides.{reach, side_at}
 use Rattle.sp_model.specs.Changes.{Data, all_data, sides}
 use Rattle.sp_model.specs.declared.program.Options.{Options}

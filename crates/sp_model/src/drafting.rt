@@ -2,7 +2,7 @@ ghost use Rattle.std.specs.Prelude.{◌≡◌, true, ◌++◌, map, length, IfOk
 ghost use Rattle.std.specs.List.{All, fold};
 ghost use Rattle.sp_model.specs.Changes.{cell_of, cells_of, core_data, data_of, limits_of, put_entries};
 ghost use Rattle.sp_model.specs.Drafts.{data_in, has_column, has_row, with_cost, with_limits};
-ghost use Rattle.sp_model.specs.Facts.{is_change};
+ghost use Rattle.sp_model.specs.RunFacts.{is_change};
 
 use crate::merging::{merged, ordered};
 use crate::program::{Change, Column, Program, Row, Scenario};

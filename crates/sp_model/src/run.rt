@@ -1,4 +1,4 @@
-ghost use Rattle.sp_model.specs.Facts.{RunFacts};
+ghost use Rattle.sp_model.specs.RunFacts.{RunFacts};
 
 use crate::program::{Options, Program};
 

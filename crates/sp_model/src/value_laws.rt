@@ -1,7 +1,7 @@
 ghost use Rattle.std.specs.Prelude.{◌≡◌, ◌<◌, ℕ, false, length, slice_index_or};
 ghost use Rattle.std.specs.List.{AllPairs};
 ghost use Rattle.sp_model.specs.Changes.{core_data, data_of};
-ghost use Rattle.sp_model.specs.Facts.{IsScenario, is_same_place};
+ghost use Rattle.sp_model.specs.RunFacts.{IsScenario, is_same_place};
 ghost use Rattle.sp_model.specs.Values.{Has, IsUntouched, SameAt};
 ghost use Rattle.sp_model.specs.declared.program.Change.{Change};
 ghost use Rattle.sp_model.specs.declared.program.Program.{Program};

@@ -1,10 +1,10 @@
-pub mod Written
-pub mod TextLaws
-pub mod Loading
-pub mod SomeColumns
-pub mod Turns
-pub mod DeskLaws
-pub mod OneCore
-pub mod OneReading
-pub mod OneJoin
-pub mod Completing
+mod Written
+mod TextLaws
+mod Loading
+mod SomeColumns
+mod Turns
+mod DeskLaws
+mod OneCore
+mod OneReading
+mod OneJoin
+mod Completing

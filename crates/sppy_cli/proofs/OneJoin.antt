@@ -4,7 +4,7 @@ use Rattle.std.specs.Prelude.{◌≢◌}
 use Rattle.join_words.specs.Joining.{IsJoined, IsRefused}
 use Rattle.join_words.specs.Parts.{Firsts, IsFirstEarly, is_early}
 use Rattle.join_words.specs.Framing.{Source}
-use Rattle.join_words.specs.RunOf.{is_crowded, is_vast, is_wide}
+use Rattle.join_words.specs.RunOf.{is_crowded, is_too_large, is_wide}
 use Rattle.join_words.specs.declared.fault.JoinFault.{JoinFault}
 use Rattle.join_words.specs.declared.fault.JoinFault.TheVariants.{Anticipates, TooManyScenarios, TooManyCells, Wide, Memory}
 use Rattle.smps_words.specs.declared.core_data.CoreEntry.{CoreEntry}
@@ -33,7 +33,7 @@ one_line firsts entries line other is also = omega (arith, least_lines firsts en
 pub run_or_refusal : (source : Source) (options : Options) (run : Run) (fault : JoinFault) → IsJoined source options run → IsRefused source options fault → fault ≢ Memory → ⊥
 run_or_refusal source options run (Anticipates line) joined refused other = never_timely source.firsts source.parts.entries line joined.timely refused
 run_or_refusal source options run TooManyScenarios joined (timely, crowded) other = both_bools (is_crowded source) crowded joined.few_scenarios
-run_or_refusal source options run TooManyCells joined (timely, few, vast) other = both_bools (is_vast source) vast joined.few_cells
+run_or_refusal source options run TooManyCells joined (timely, few, vast) other = both_bools (is_too_large source) vast joined.few_cells
 run_or_refusal source options run (Wide reach) joined (timely, few, less, wide, told) other = both_bools (is_wide source options) wide joined.narrow
 run_or_refusal source options run Memory joined refused other = other refl
 
@@ -50,10 +50,10 @@ one_refusal source options TooManyScenarios (Wide reach) (timely, crowded) (also
 one_refusal source options TooManyCells (Anticipates line) (timely, few, vast) a m n = absurd (never_timely source.firsts source.parts.entries line timely a)
 one_refusal source options TooManyCells TooManyScenarios (timely, few, vast) (also, crowded) m n = absurd (both_bools (is_crowded source) crowded few)
 one_refusal source options TooManyCells TooManyCells a b m n = refl
-one_refusal source options TooManyCells (Wide reach) (timely, few, vast) (also, less, slight, wide, told) m n = absurd (both_bools (is_vast source) vast slight)
+one_refusal source options TooManyCells (Wide reach) (timely, few, vast) (also, less, slight, wide, told) m n = absurd (both_bools (is_too_large source) vast slight)
 one_refusal source options (Wide reach) (Anticipates line) (timely, few, slight, wide, told) a m n = absurd (never_timely source.firsts source.parts.entries line timely a)
 one_refusal source options (Wide reach) TooManyScenarios (timely, few, slight, wide, told) (also, crowded) m n = absurd (both_bools (is_crowded source) crowded few)
-one_refusal source options (Wide reach) TooManyCells (timely, few, slight, wide, told) (also, less, vast) m n = absurd (both_bools (is_vast source) vast slight)
+one_refusal source options (Wide reach) TooManyCells (timely, few, slight, wide, told) (also, less, vast) m n = absurd (both_bools (is_too_large source) vast slight)
 one_refusal source options (Wide reach) (Wide other) (timely, few, slight, wide, told) (a, b, c, d, also) m n = ap Wide (told ∙ sym also)
 one_refusal source options Memory g a b m n = absurd (m refl)
 one_refusal source options (Anticipates line) Memory a b m n = absurd (n refl)

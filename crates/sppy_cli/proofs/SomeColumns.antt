@@ -2,7 +2,7 @@
 use Rattle.std.proofs.Common.{arith, ◌≡◌, ℕ, ◌<◌, ◌==◌, nat_le, Bool, true, false, not, List, [], ◌∷◌, ◌++◌, cond, length, Option, Some, None, Result, Ok, Err, refl, ap, subst, if◌then◌else◌}
 use Rattle.std.proofs.lemmas.List.{length-map}
 use Rattle.std.specs.Option.{is_none, is_some, unwrap_or}
-use Rattle.line_core.specs.Lines.{lines_of}
+use Rattle.line_core.specs.SplitLines.{lines_of}
 use Rattle.line_core.specs.Names.{number_of}
 use Rattle.line_core.specs.declared.line_list.Line.{Line}
 use Rattle.line_core.specs.declared.line_list.LineFault.{LineFault}

@@ -19,7 +19,7 @@ pub use Rattle.smps_core.specs.CoreData
 pub use Rattle.smps_stoch.specs.StochFacts
 pub use Rattle.smps_stoch.specs.StochMeaning
 pub use Rattle.smps_time.specs.TimeAnswers
-pub use Rattle.sp_model.specs.Facts
+pub use Rattle.sp_model.specs.RunFacts
 pub use Rattle.sp_model.specs.Problems
 pub use Rattle.sp_model.specs.ScenarioPoints
 pub use Rattle.text_lines.specs.BoundLines

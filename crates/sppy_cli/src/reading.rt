@@ -1,7 +1,7 @@
 ghost use Rattle.std.specs.Prelude.{◌≡◌, IfOk};
 ghost use Rattle.io_edge.specs.Faults.{CountsTo};
 ghost use Rattle.run_words.specs.Words.{request_of};
-ghost use Rattle.sp_model.specs.Facts.{OptionFacts};
+ghost use Rattle.sp_model.specs.RunFacts.{OptionFacts};
 ghost use Rattle.sppy_cli.specs.Causes.{KeepsFacts, join_at, status_of_join};
 ghost use Rattle.sppy_cli.specs.Desk.{LoadsFiles, LoadsInstance};
 ghost use Rattle.sppy_cli.specs.InTurn.{LoadsAllInTurn};

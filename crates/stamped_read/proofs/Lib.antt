@@ -1,2 +1,2 @@
-pub mod Standing
-pub mod Freshness
+mod Standing
+mod Freshness

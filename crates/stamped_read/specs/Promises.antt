@@ -5,7 +5,7 @@ use Rattle.window_words.specs.declared.views.View.{View}
 use Rattle.window_words.specs.declared.views.Call.{Call}
 use Rattle.stamped_read.specs.declared.read.Read.{Read}
 use Rattle.stamped_read.specs.declared.read.Read.TheVariants as read
-use Rattle.stamped_read.specs.Readers.{Reader, part, words_of, window_of, room_of, next, told}
+use Rattle.stamped_read.specs.Readers.{Reader, part, words_of, window_of, room_of, next, read_told}
 
 -- The reader's windows are there and have its widths. Where it has begun a reading, the seat's reading is that one. The parts that it read in the present reading are those of the entry that it reads.
 pub record ReadsFor (entry : ℕ → ℕ → List ℕ) (wide : ℕ → ℕ) (count : ℕ) (v : View) (s : Reader) : Type 0 where
@@ -17,7 +17,7 @@ pub record ReadsFor (entry : ℕ → ℕ → List ℕ) (wide : ℕ → ℕ) (cou
 pub record Makes {X : Type 0} (leaves : X → Call → ℕ → X → Type 0) (view : X → View) (leaders : ℕ) (b b' : X) (s s' : Reader) (answer : Read) (call : Call) (n : ℕ) : Type 0 where
   pub leaves_it : leaves b call n b'
   pub knows : view b' ≡ after leaders call n (view b)
-  pub tells : answer ≡ told call s n
+  pub tells : answer ≡ read_told call s n
   pub stands : s' ≡ next call s n
 
 -- a reading that is answered is one entry of all the reader's windows, newer than the last; no other answer changes which one is the last

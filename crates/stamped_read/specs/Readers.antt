@@ -126,12 +126,12 @@ next (call.End w) s n = ends s n
 next (call.Stop k) s n = s
 next call.Stopped s n = s
 
-abbrev pub told : Call → Reader → ℕ → Read
-told (call.Open k) s n = read.Going
-told (call.Put word) s n = read.Going
-told call.Close s n = read.Going
-told (call.Begin w) s n = begins_told (unfit s n)
-told (call.Read w) s n = read.Going
-told (call.End w) s n = ends_told s n
-told (call.Stop k) s n = read.Going
-told call.Stopped s n = read.Going
+abbrev pub read_told : Call → Reader → ℕ → Read
+read_told (call.Open k) s n = read.Going
+read_told (call.Put word) s n = read.Going
+read_told call.Close s n = read.Going
+read_told (call.Begin w) s n = begins_told (unfit s n)
+read_told (call.Read w) s n = read.Going
+read_told (call.End w) s n = ends_told s n
+read_told (call.Stop k) s n = read.Going
+read_told call.Stopped s n = read.Going

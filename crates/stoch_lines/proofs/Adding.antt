@@ -5,7 +5,7 @@ use Rattle.std.proofs.lemmas.Grind.{common_steps}
 use Rattle.std.proofs.lemmas.List.Sums.{fold-append}
 use Rattle.smps_words.proofs.FoldLaw.{fold_is}
 use Rattle.smps_words.proofs.ToldLaws.{told_push}
-use Rattle.smps_words.specs.Outcomes.{seen_by, told}
+use Rattle.smps_words.specs.Outcomes.{seen_by, all_told}
 use Rattle.smps_words.specs.TextLines.{TextLine, field}
 use Rattle.smps_words.specs.declared.core_file.Core.{Core}
 use Rattle.smps_words.specs.declared.periods.Periods.{Periods}
@@ -28,14 +28,14 @@ blocks_more : (lines : List TextLine) (line : TextLine) → blocks_of (lines ++ 
 blocks_more lines line =
     let tells = λ (before : List TextLine) (l : TextLine). block_names_in (section_of before) l in
     ap (fold with_name []) (told_push tells lines line)
-    ∙ fold-append with_name [] (told tells [] lines) (block_names_in (section_of lines) line)
+    ∙ fold-append with_name [] (all_told tells [] lines) (block_names_in (section_of lines) line)
 
 module _ (core : Core) (periods : Periods) where
   sources_more : (lines : List TextLine) (line : TextLine) → sources_of core periods (lines ++ line ∷ []) ≡ fold with_source (sources_of core periods lines) (sayings core periods (section_of lines) (blocks_of lines) line)
   sources_more lines line =
       let tells = λ (before : List TextLine) (l : TextLine). sayings core periods (section_of before) (blocks_of before) l in
       ap (fold with_source []) (told_push tells lines line)
-      ∙ fold-append with_source [] (told tells [] lines) (tells lines line)
+      ∙ fold-append with_source [] (all_told tells [] lines) (tells lines line)
 
   pub one_more : (lines : List TextLine) (line : TextLine) → before_of core periods (lines ++ line ∷ []) ≡ next core periods (before_of core periods lines) line
   one_more lines line =

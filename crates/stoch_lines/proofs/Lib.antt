@@ -1,5 +1,5 @@
 pub mod Adding
 pub mod Answering
 pub mod Equal
-pub mod Marking
+mod Marking
 pub mod Positions

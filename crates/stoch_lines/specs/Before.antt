@@ -2,7 +2,7 @@
 use Rattle.std.specs.Prelude.{ℕ, Bool, true, false, not, ◌==◌, if◌then◌else◌, List, [], ◌∷◌, ◌++◌, length, fold, map, Option, None}
 use Rattle.smps_words.specs.declared.core_file.Core.{Core}
 use Rattle.smps_words.specs.declared.periods.Periods.{Periods}
-use Rattle.smps_words.specs.Outcomes.{told, latest}
+use Rattle.smps_words.specs.Outcomes.{all_told, latest}
 use Rattle.smps_words.specs.TextLines.{TextLine, field}
 use Rattle.stoch_lines.specs.declared.heading.Heading.{Heading}
 use Rattle.stoch_lines.specs.declared.places.Source.{Source}
@@ -44,14 +44,14 @@ abbrev pub block_names_in : Option Heading → TextLine → List (List ℕ)
 block_names_in section line = if is_block_line section line then field 1 line ∷ [] else []
 
 abbrev pub blocks_of : List TextLine → List (List ℕ)
-blocks_of lines = fold with_name [] (told (λ before line. block_names_in (section_of before) line) [] lines)
+blocks_of lines = fold with_name [] (all_told (λ before line. block_names_in (section_of before) line) [] lines)
 
 abbrev pub names_of : List TextLine → List (List ℕ)
-names_of lines = told (λ before line. scenario_names (section_of before) line) [] lines
+names_of lines = all_told (λ before line. scenario_names (section_of before) line) [] lines
 
 module _ (core : Core) (periods : Periods) where
   abbrev pub sayings_of : List TextLine → List Saying
-  sayings_of lines = told (λ before line. sayings core periods (section_of before) (blocks_of before) line) [] lines
+  sayings_of lines = all_told (λ before line. sayings core periods (section_of before) (blocks_of before) line) [] lines
 
   -- the elements: one for each place and block, in order of first appearance
   abbrev pub sources_of : List TextLine → List Source
@@ -60,18 +60,18 @@ module _ (core : Core) (periods : Periods) where
   -- the period that the first line of each element says
   abbrev pub periods_of : List TextLine → List ℕ
   periods_of lines =
-      told (λ before line. new_periods (sources_of before) (sayings core periods (section_of before) (blocks_of before) line)) [] lines
+      all_told (λ before line. new_periods (sources_of before) (sayings core periods (section_of before) (blocks_of before) line)) [] lines
 
   abbrev pub realisations_of : List TextLine → List Chosen
   realisations_of lines =
-      told (λ before line. map (chosen_by (sources_of before)) (sayings core periods (section_of before) (blocks_of before) line)) [] lines
+      all_told (λ before line. map (chosen_by (sources_of before)) (sayings core periods (section_of before) (blocks_of before) line)) [] lines
 
   abbrev pub scenarios_of : List TextLine → List ScenarioHead
-  scenarios_of lines = told (λ before line. scenario_heads periods (section_of before) (names_of before) line) [] lines
+  scenarios_of lines = all_told (λ before line. scenario_heads periods (section_of before) (names_of before) line) [] lines
 
   abbrev pub entries_of : List TextLine → List Owned
   entries_of lines =
-      told (λ before line. owned_entries core (section_of before) (sources_of before) (realisations_of before) (scenarios_of before) line) [] lines
+      all_told (λ before line. owned_entries core (section_of before) (sources_of before) (realisations_of before) (scenarios_of before) line) [] lines
 
   abbrev pub before_of : List TextLine → Before
   before_of lines = record {

@@ -19,7 +19,7 @@ use Rattle.stoch_lines.specs.declared.kinds.StochKind.TheVariants.{Section, Mode
 use Rattle.stoch_lines.specs.declared.places.StochPlace.{StochPlace}
 use Rattle.stoch_lines.specs.declared.entries.Owned.{Owned}
 use Rattle.stoch_lines.specs.declared.state.ScenarioHead.{ScenarioHead}
-use Rattle.stoch_lines.specs.Places.{same_place, stage_of, anticipates, period_of}
+use Rattle.stoch_lines.specs.Places.{same_place, stage_of_place, anticipates, period_of}
 use Rattle.stoch_lines.specs.declared.state.Saying.{Saying}
 use Rattle.stoch_lines.specs.Sayings.{heading_of, begins_block, begins_scenario, last_field, place_at, entry_at, entries_at, named_period, indep_saying, block_saying, element_of, last_element}
 use Rattle.stoch_lines.specs.Before.{Before}
@@ -89,7 +89,7 @@ indep_rules periods b place named saying =
     let period = own_period b saying in
     first_true (
     (anticipates periods place, Anticipates)
-    ∷ ((period == 1) || nat_lt (stage_of periods place) period, EarlyEntry)
+    ∷ ((period == 1) || nat_lt (stage_of_place periods place) period, EarlyEntry)
     ∷ (not (unwrap_or named period == period), Clash)
     ∷ (is_taken b.entries (element_of b.sources saying.source) place, Twice)
     ∷ [])
@@ -162,7 +162,7 @@ abbrev pub places_rules : Periods → ℕ → Bool → List StochPlace → Optio
 places_rules periods earliest twice places =
     first_true (
     (list_any (anticipates periods) places, Anticipates)
-    ∷ (list_any (λ place. nat_lt (stage_of periods place) earliest) places, EarlyEntry)
+    ∷ (list_any (λ place. nat_lt (stage_of_place periods place) earliest) places, EarlyEntry)
     ∷ (twice, Twice)
     ∷ [])
 

@@ -43,14 +43,14 @@ place_of_first core (Some column) first row = place_in_column core column row
 place_of_first core None first row = if is_right_name core first then place_on_right core row else None
 
 -- the place that a first field and a row name, if they name one
-abbrev pub place_of : Core → List ℕ → List ℕ → Option StochPlace
-place_of core first row = place_of_first core (position (bytes_eq first) core.column_names) first row
+abbrev pub stoch_place : Core → List ℕ → List ℕ → Option StochPlace
+stoch_place core first row = place_of_first core (position (bytes_eq first) core.column_names) first row
 
 -- the stage of a place: its row's, or for a cost the column's
-abbrev pub stage_of : Periods → StochPlace → ℕ
-stage_of periods (Cost column) = stage_in periods.columns column
-stage_of periods (Cell row column) = stage_in periods.rows row
-stage_of periods (Right row) = stage_in periods.rows row
+abbrev pub stage_of_place : Periods → StochPlace → ℕ
+stage_of_place periods (Cost column) = stage_in periods.columns column
+stage_of_place periods (Cell row column) = stage_in periods.rows row
+stage_of_place periods (Right row) = stage_in periods.rows row
 
 -- whether a place is that of a column in a row of an earlier stage
 abbrev pub anticipates : Periods → StochPlace → Bool

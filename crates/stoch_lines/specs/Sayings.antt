@@ -19,7 +19,7 @@ use Rattle.stoch_lines.specs.declared.state.Chosen.{Chosen}
 use Rattle.stoch_lines.specs.declared.state.Saying.{Saying}
 use Rattle.stoch_lines.specs.declared.entries.Owned.{Owned}
 use Rattle.stoch_lines.specs.declared.state.ScenarioHead.{ScenarioHead}
-use Rattle.stoch_lines.specs.Places.{same_source, place_of, stage_of, period_of}
+use Rattle.stoch_lines.specs.Places.{same_source, stoch_place, stage_of_place, period_of}
 
 -- the section that a header's first word begins
 abbrev pub heading_of : List ℕ → Option Heading
@@ -47,7 +47,7 @@ last_field line = field (field_count line - 1) line
 
 -- the place that a line's first field and its field k name
 abbrev pub place_at : Core → ℕ → TextLine → Option StochPlace
-place_at core k line = place_of core (field 0 line) (field k line)
+place_at core k line = stoch_place core (field 0 line) (field k line)
 
 -- the entry of a line's first field, the row in its field k and the value behind it
 abbrev pub entry_at : Core → ℕ → TextLine → StochEntry
@@ -69,7 +69,7 @@ named_period periods line = if field_count line == 5 then period_of periods (fie
 abbrev pub saying_at : Periods → StochPlace → Option ℕ → Decimal → Saying
 saying_at periods place named probability = record {
   source = Place place;
-  period = unwrap_or named (stage_of periods place);
+  period = unwrap_or named (stage_of_place periods place);
   probability = probability;
 }
 

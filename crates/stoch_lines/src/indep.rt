@@ -11,7 +11,7 @@ use crate::entries::Owned;
 use crate::fields::{fault_at, known_period, last_field, probability_of};
 use crate::kinds::{StochFault, StochKind};
 use crate::pairs::pair_of;
-use crate::place_words::{anticipates, stage_of};
+use crate::place_words::{anticipates, stage_of_place};
 use crate::places::{Source, StochEntry};
 use crate::state::{Saying, State};
 use dec_core::Decimal;
@@ -64,7 +64,7 @@ fn saying_of(periods: &Periods, fields: &IndepFields) -> Saying
         source: Source::Place(place),
         period: match fields.named {
             Some(period) => period,
-            None => stage_of(periods, place),
+            None => stage_of_place(periods, place),
         },
         probability: fields.probability,
     }
@@ -85,7 +85,7 @@ fn rules(
     if anticipates(periods, place) {
         return Err(StochKind::Anticipates);
     }
-    if period == 1 || stage_of(periods, place) < period {
+    if period == 1 || stage_of_place(periods, place) < period {
         return Err(StochKind::EarlyEntry);
     }
     if fields.named.unwrap_or(period) != period {

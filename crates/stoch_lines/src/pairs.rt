@@ -3,14 +3,14 @@ ghost use Rattle.std.specs.List.{list_any};
 ghost use Rattle.smps_words.specs.Tables.{Passes};
 ghost use Rattle.smps_words.specs.TextLines.{text_of};
 ghost use Rattle.stoch_lines.specs.Faults.{pair_fault, pairs_fault, places_rules, is_repeated};
-ghost use Rattle.stoch_lines.specs.Places.{anticipates, stage_of};
+ghost use Rattle.stoch_lines.specs.Places.{anticipates, stage_of_place};
 ghost use Rattle.stoch_lines.specs.Sayings.{entry_at, entries_at};
 ghost use Rattle.stoch_lines.specs.Turns.{pair_entries, pair_places};
 
 use crate::entries::Entries;
 use crate::fields::number_of_text;
 use crate::kinds::StochKind;
-use crate::place_words::{anticipates, place_at, same_place, stage_of};
+use crate::place_words::{anticipates, place_at, same_place, stage_of_place};
 use crate::places::{StochEntry, StochPlace};
 use smps_words::{Core, FileLine, Periods};
 
@@ -69,14 +69,14 @@ fn one_anticipates(periods: &Periods, pairs: &Pairs) -> bool
 
 fn one_is_early(periods: &Periods, earliest: u8, pairs: &Pairs) -> bool
     ensures { result
-        ≡ list_any (λ place. nat_lt (stage_of periods.now place) earliest) (pair_places pairs.now) }
+        ≡ list_any (λ place. nat_lt (stage_of_place periods.now place) earliest) (pair_places pairs.now) }
 {
     match pairs.second {
         Some(second) => {
-            stage_of(periods, pairs.first.place) < earliest
-                || stage_of(periods, second.place) < earliest
+            stage_of_place(periods, pairs.first.place) < earliest
+                || stage_of_place(periods, second.place) < earliest
         }
-        None => stage_of(periods, pairs.first.place) < earliest,
+        None => stage_of_place(periods, pairs.first.place) < earliest,
     }
 }
 

@@ -1,6 +1,6 @@
 ghost use Rattle.std.specs.Prelude.{◌≡◌};
 ghost use Rattle.smps_words.specs.TextLines.{text_of};
-ghost use Rattle.stoch_lines.specs.Places.{place_in_column, place_on_right, is_right_name, place_of, same_place, stage_of, anticipates};
+ghost use Rattle.stoch_lines.specs.Places.{place_in_column, place_on_right, is_right_name, stoch_place, same_place, stage_of_place, anticipates};
 ghost use Rattle.stoch_lines.specs.Sayings.{place_at};
 
 use crate::places::StochPlace;
@@ -34,8 +34,8 @@ fn is_right_name(core: &Core, first: &[u8]) -> bool
 }
 
 /// The place that a first field and a row name, if they name one.
-pub fn place_of(core: &Core, first: &[u8], row: &[u8]) -> Option<StochPlace>
-    ensures { result ≡ place_of core.now first.now row.now }
+pub fn stoch_place(core: &Core, first: &[u8], row: &[u8]) -> Option<StochPlace>
+    ensures { result ≡ stoch_place core.now first.now row.now }
 {
     match core.column_names.find(first) {
         Some(column) => place_in_column(core, column, row),
@@ -48,7 +48,7 @@ pub fn place_of(core: &Core, first: &[u8], row: &[u8]) -> Option<StochPlace>
 pub fn place_at(core: &Core, k: usize, line: &FileLine<'_>) -> Option<StochPlace>
     ensures { result ≡ place_at core.now k (text_of line.now) }
 {
-    place_of(core, line.field(0), line.field(k))
+    stoch_place(core, line.field(0), line.field(k))
 }
 
 /// Whether two places are the same.
@@ -64,8 +64,8 @@ pub fn same_place(place: StochPlace, other: StochPlace) -> bool
 }
 
 /// The stage of a place: its row's, or for a cost the column's.
-pub fn stage_of(periods: &Periods, place: StochPlace) -> u8
-    ensures { result ≡ stage_of periods.now place }
+pub fn stage_of_place(periods: &Periods, place: StochPlace) -> u8
+    ensures { result ≡ stage_of_place periods.now place }
 {
     match place {
         StochPlace::Cost(column) => periods.stage_of_column(column),

@@ -1,6 +1,6 @@
 ghost use Rattle.std.specs.Prelude.{◌≡◌, List};
 ghost use Rattle.smps_words.specs.Memory.{MayRefuse};
-ghost use Rattle.smps_words.specs.Places.{Says};
+ghost use Rattle.smps_words.specs.FirstPlaces.{Says};
 ghost use Rattle.smps_words.specs.TextLines.{TextLine, last_number, text_lines};
 ghost use Rattle.smps_words.specs.declared.core_file.Core.{Core};
 ghost use Rattle.smps_words.specs.declared.periods.Periods.{Periods};

@@ -1,3 +1,3 @@
-pub mod RowLimitLaws
-pub mod Ranges
+mod RowLimitLaws
+mod Ranges
 pub mod Units

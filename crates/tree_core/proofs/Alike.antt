@@ -9,7 +9,7 @@ use Rattle.std.proofs.lemmas.List.FromFn.{get_or-range_with_len, length-range_wi
 use Rattle.std.proofs.lemmas.List.Kept.{AllPairs-filter}
 use Rattle.std.proofs.lemmas.List.Quantifiers.{position-Some}
 use Rattle.std.proofs.lemmas.List.Sums.{sum_by-append, sum_by-cons}
-use Rattle.tree_core.specs.Marks.{alike, firsts, is_taken}
+use Rattle.tree_core.specs.Marks.{alike, firsts, is_marked_before}
 use Rattle.tree_core.proofs.FirstOnes.{alike_more, firsts_new, firsts_old, key_count, place_of, place_taken}
 use Rattle.tree_core.proofs.Listing.{any_counted, none_pass, ones}
 
@@ -22,7 +22,7 @@ pub alike_ascends : (mark : ℕ → ℕ) (n f : ℕ) → AllPairs (λ x y. x < y
 alike_ascends mark n f = AllPairs-filter (λ x y. x < y) (λ u. mark f == mark u) (range_with_len 0 n) (range_ascends n)
 
 pub firsts_ascend : (mark : ℕ → ℕ) (n : ℕ) → AllPairs (λ x y. x < y) (firsts mark n)
-firsts_ascend mark n = AllPairs-filter (λ x y. x < y) (λ s. not (is_taken mark s (mark s))) (range_with_len 0 n) (range_ascends n)
+firsts_ascend mark n = AllPairs-filter (λ x y. x < y) (λ s. not (is_marked_before mark s (mark s))) (range_with_len 0 n) (range_ascends n)
 
 -- a scenario below n of a mark
 pub record IsAlike (mark : ℕ → ℕ) (n f s : ℕ) : Type 0 where
@@ -51,13 +51,13 @@ alike_all mark (suc n) f =
 -- the first scenario of a mark
 pub record IsFirst (mark : ℕ → ℕ) (n f : ℕ) : Type 0 where
   pub below : f < n
-  pub first : is_taken mark f (mark f) ≡ false
+  pub first : is_marked_before mark f (mark f) ≡ false
 
 pub firsts_all : (mark : ℕ → ℕ) (n : ℕ) → All (IsFirst mark n) (firsts mark n)
 firsts_all mark zero = All-nil (IsFirst mark zero)
-firsts_all mark (suc n) = by_taken (is_taken mark n (mark n)) refl (All-weaker (IsFirst mark n) (IsFirst mark (suc n)) (λ f h. record { below = omega arith; first = h.first }) (firsts mark n) (firsts_all mark n))
+firsts_all mark (suc n) = by_taken (is_marked_before mark n (mark n)) refl (All-weaker (IsFirst mark n) (IsFirst mark (suc n)) (λ f h. record { below = omega arith; first = h.first }) (firsts mark n) (firsts_all mark n))
   where
-    by_taken : (t : Bool) → is_taken mark n (mark n) ≡ t → All (IsFirst mark (suc n)) (firsts mark n) → All (IsFirst mark (suc n)) (firsts mark (suc n))
+    by_taken : (t : Bool) → is_marked_before mark n (mark n) ≡ t → All (IsFirst mark (suc n)) (firsts mark n) → All (IsFirst mark (suc n)) (firsts mark (suc n))
     by_taken true e r = let P : List ℕ → Type 0 = All (IsFirst mark (suc n)) in subst P (sym (firsts_old mark n e)) r
     by_taken false e r =
         let P : List ℕ → Type 0 = All (IsFirst mark (suc n)) in
@@ -142,7 +142,7 @@ alike_counts mark n s (f ∷ fs) h =
     ∙ sym (sum_by-cons (λ g. cond (mark g == mark s) 1 0) f fs)
 
 -- the mark of a scenario is taken behind it
-pub taken_below : (mark : ℕ → ℕ) (n s : ℕ) → s < n → is_taken mark n (mark s) ≡ true
+pub taken_below : (mark : ℕ → ℕ) (n s : ℕ) → s < n → is_marked_before mark n (mark s) ≡ true
 taken_below mark n s h =
     let at : get_or (range_with_len 0 n) s 0 ≡ s = get_or-range_with_len 0 n s 0 h ∙ omega arith in
     let own : (mark s == mark s) ≡ true = grind arith in

@@ -6,18 +6,18 @@ use Rattle.std.specs.Option.{option_or}
 use Rattle.std.proofs.lemmas.List.Sums.{sum_by-append}
 use Rattle.std.proofs.lemmas.List.{length-map, map-append}
 use Rattle.std.proofs.lemmas.List.Quantifiers.{position-Some}
-use Rattle.tree_core.specs.Marks.{alike, firsts, groups, is_taken}
+use Rattle.tree_core.specs.Marks.{alike, firsts, groups, is_marked_before}
 use Rattle.tree_core.proofs.Listing.{any_counted, any_more, filter_more, joined_at, joined_none, none_pass, ones, option_or_none, passes_is, place_push}
 
 -- the place of the list of a mark
 abbrev pub place_of : (ℕ → ℕ) → ℕ → ℕ → Option ℕ
 place_of mark n key = position (λ f. mark f == key) (firsts mark n)
 
-pub firsts_old : (mark : ℕ → ℕ) (n : ℕ) → is_taken mark n (mark n) ≡ true → firsts mark (suc n) ≡ firsts mark n
-firsts_old mark n h = filter_more (λ s. not (is_taken mark s (mark s))) n ∙ ap (λ t. firsts mark n ++ cond (not t) (n ∷ []) []) h ∙ append-nil (firsts mark n)
+pub firsts_old : (mark : ℕ → ℕ) (n : ℕ) → is_marked_before mark n (mark n) ≡ true → firsts mark (suc n) ≡ firsts mark n
+firsts_old mark n h = filter_more (λ s. not (is_marked_before mark s (mark s))) n ∙ ap (λ t. firsts mark n ++ cond (not t) (n ∷ []) []) h ∙ append-nil (firsts mark n)
 
-pub firsts_new : (mark : ℕ → ℕ) (n : ℕ) → is_taken mark n (mark n) ≡ false → firsts mark (suc n) ≡ firsts mark n ++ n ∷ []
-firsts_new mark n h = filter_more (λ s. not (is_taken mark s (mark s))) n ∙ ap (λ t. firsts mark n ++ cond (not t) (n ∷ []) []) h
+pub firsts_new : (mark : ℕ → ℕ) (n : ℕ) → is_marked_before mark n (mark n) ≡ false → firsts mark (suc n) ≡ firsts mark n ++ n ∷ []
+firsts_new mark n h = filter_more (λ s. not (is_marked_before mark s (mark s))) n ∙ ap (λ t. firsts mark n ++ cond (not t) (n ∷ []) []) h
 
 counted : (u t : Bool) (m : ℕ) → m ≡ cond t 1 0 → (u ≡ true → t ≡ false) → m + (0 + cond u 1 0) ≡ cond (t || u) 1 0
 counted true true m e h = cc (h refl)
@@ -32,25 +32,25 @@ kept false true h = refl
 kept false false h = refl
 
 -- among the first scenarios a mark that is taken stands once, any other not at all
-pub key_count : (mark : ℕ → ℕ) (n key : ℕ) → count_by (λ f. mark f == key) (firsts mark n) ≡ cond (is_taken mark n key) 1 0
+pub key_count : (mark : ℕ → ℕ) (n key : ℕ) → count_by (λ f. mark f == key) (firsts mark n) ≡ cond (is_marked_before mark n key) 1 0
 key_count mark zero key = refl
-key_count mark (suc n) key = by_taken (is_taken mark n (mark n)) refl (key_count mark n key) ∙ ap (λ b. cond b 1 0) (sym (any_more (λ u. mark u == key) n))
+key_count mark (suc n) key = by_taken (is_marked_before mark n (mark n)) refl (key_count mark n key) ∙ ap (λ b. cond b 1 0) (sym (any_more (λ u. mark u == key) n))
   where
     same_mark : (mark n == key) ≡ true → mark n ≡ key
     same_mark s = grind arith
 
-    by_taken : (t : Bool) → is_taken mark n (mark n) ≡ t → count_by (λ f. mark f == key) (firsts mark n) ≡ cond (is_taken mark n key) 1 0 → count_by (λ f. mark f == key) (firsts mark (suc n)) ≡ cond (is_taken mark n key || (mark n == key)) 1 0
+    by_taken : (t : Bool) → is_marked_before mark n (mark n) ≡ t → count_by (λ f. mark f == key) (firsts mark n) ≡ cond (is_marked_before mark n key) 1 0 → count_by (λ f. mark f == key) (firsts mark (suc n)) ≡ cond (is_marked_before mark n key || (mark n == key)) 1 0
     by_taken false e r =
         ap (count_by (λ f. mark f == key)) (firsts_new mark n e)
         ∙ sum_by-append (λ f. cond (mark f == key) 1 0) (firsts mark n) (n ∷ [])
-        ∙ counted (mark n == key) (is_taken mark n key) (count_by (λ f. mark f == key) (firsts mark n)) r (λ s. ap (is_taken mark n) (sym (same_mark s)) ∙ e)
+        ∙ counted (mark n == key) (is_marked_before mark n key) (count_by (λ f. mark f == key) (firsts mark n)) r (λ s. ap (is_marked_before mark n) (sym (same_mark s)) ∙ e)
     by_taken true e r =
-        ap (count_by (λ f. mark f == key)) (firsts_old mark n e) ∙ r ∙ kept (mark n == key) (is_taken mark n key) (λ s. ap (is_taken mark n) (sym (same_mark s)) ∙ e)
+        ap (count_by (λ f. mark f == key)) (firsts_old mark n e) ∙ r ∙ kept (mark n == key) (is_marked_before mark n key) (λ s. ap (is_marked_before mark n) (sym (same_mark s)) ∙ e)
 
 -- a mark has a place exactly where it is taken
-pub place_taken : (mark : ℕ → ℕ) (n key : ℕ) → is_some (place_of mark n key) ≡ is_taken mark n key
+pub place_taken : (mark : ℕ → ℕ) (n key : ℕ) → is_some (place_of mark n key) ≡ is_marked_before mark n key
 place_taken mark n key =
-    sym (passes_is (λ f. mark f == key) (firsts mark n)) ∙ any_counted (λ f. mark f == key) (firsts mark n) (is_taken mark n key) (key_count mark n key)
+    sym (passes_is (λ f. mark f == key) (firsts mark n)) ∙ any_counted (λ f. mark f == key) (firsts mark n) (is_marked_before mark n key) (key_count mark n key)
 
 pub alike_more : (mark : ℕ → ℕ) (n f : ℕ) → alike mark (suc n) f ≡ alike mark n f ++ cond (mark f == mark n) (n ∷ []) []
 alike_more mark n f = filter_more (λ u. mark f == mark u) n
@@ -62,7 +62,7 @@ groups_more mark n (f ∷ fs) = ap (λ g. g ∷ map (alike mark (suc n)) fs) (al
 -- a scenario of a mark that isn't taken begins a list
 pub groups_new : (mark : ℕ → ℕ) (n : ℕ) → place_of mark n (mark n) ≡ None → groups mark (suc n) ≡ groups mark n ++ (n ∷ []) ∷ []
 groups_new mark n h =
-    let free : is_taken mark n (mark n) ≡ false = sym (place_taken mark n (mark n)) ∙ ap is_some h in
+    let free : is_marked_before mark n (mark n) ≡ false = sym (place_taken mark n (mark n)) ∙ ap is_some h in
     let alone : alike mark n n ≡ [] = none_pass (λ u. mark n == mark u) (λ u. mark u == mark n) (λ u. grind arith) (range_with_len 0 n) free in
     let same : (mark n == mark n) ≡ true = grind arith in
     groups_more mark n (firsts mark (suc n))
@@ -75,7 +75,7 @@ groups_new mark n h =
 -- a scenario of a mark that is taken goes to the end of the list of the mark
 pub groups_old : (mark : ℕ → ℕ) (n k : ℕ) → place_of mark n (mark n) ≡ Some k → groups mark (suc n) ≡ set (groups mark n) k (get_or (groups mark n) k [] ++ n ∷ [])
 groups_old mark n k h =
-    let taken : is_taken mark n (mark n) ≡ true = sym (place_taken mark n (mark n)) ∙ ap is_some h in
+    let taken : is_marked_before mark n (mark n) ≡ true = sym (place_taken mark n (mark n)) ∙ ap is_some h in
     groups_more mark n (firsts mark (suc n))
     ∙ ap (map (λ f. alike mark n f ++ cond (mark f == mark n) (n ∷ []) [])) (firsts_old mark n taken)
     ∙ joined_at (λ f. mark f == mark n) (alike mark n) n (firsts mark n) k (key_count mark n (mark n) ∙ ap (λ t. cond t 1 0) taken) h
@@ -83,7 +83,7 @@ groups_old mark n k h =
 -- the places of the marks after a new one
 pub places_new : (mark : ℕ → ℕ) (n key : ℕ) → place_of mark n (mark n) ≡ None → place_of mark (suc n) key ≡ cond (mark n == key) (Some (length (firsts mark n))) (place_of mark n key)
 places_new mark n key h =
-    let free : is_taken mark n (mark n) ≡ false = sym (place_taken mark n (mark n)) ∙ ap is_some h in
+    let free : is_marked_before mark n (mark n) ≡ false = sym (place_taken mark n (mark n)) ∙ ap is_some h in
     ap (position (λ f. mark f == key)) (firsts_new mark n free) ∙ place_push (λ f. mark f == key) (firsts mark n) n ∙ by_same (mark n == key) (λ s. ap (place_of mark n) (sym (same_mark s)) ∙ h)
   where
     same_mark : (mark n == key) ≡ true → mark n ≡ key
@@ -96,7 +96,7 @@ places_new mark n key h =
 -- the places stay where the mark is taken
 pub places_old : (mark : ℕ → ℕ) (n k key : ℕ) → place_of mark n (mark n) ≡ Some k → place_of mark (suc n) key ≡ place_of mark n key
 places_old mark n k key h =
-    let taken : is_taken mark n (mark n) ≡ true = sym (place_taken mark n (mark n)) ∙ ap is_some h in
+    let taken : is_marked_before mark n (mark n) ≡ true = sym (place_taken mark n (mark n)) ∙ ap is_some h in
     ap (position (λ f. mark f == key)) (firsts_old mark n taken)
 
 -- the loop's step where the mark has a place: no place changes, and its list grows

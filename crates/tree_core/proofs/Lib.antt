@@ -1,6 +1,6 @@
 pub mod Listing
-pub mod FirstOnes
-pub mod Stages
-pub mod Alike
+mod FirstOnes
+mod Stages
+mod Alike
 pub mod TreeLaws
 pub mod Finding

@@ -9,7 +9,7 @@ use Rattle.std.proofs.lemmas.List.Sums.{count_by-le-length, length-filter}
 use Rattle.std.proofs.lemmas.List.FromFn.{length-range_with_len}
 use Rattle.tree_core.specs.declared.tree.Node.{Node}
 use Rattle.tree_core.specs.declared.tree.Tree.{Tree}
-use Rattle.tree_core.specs.Marks.{AreNested, alike, firsts, groups, is_taken, mark_of, node, nodes_at, tree_of}
+use Rattle.tree_core.specs.Marks.{AreNested, alike, firsts, groups, is_marked_before, mark_of, node, nodes_at, tree_of}
 use Rattle.tree_core.specs.Nodes.{holds, IsNode, no_node, node_place, Precedes, SameNode, Share, StandsOnce}
 use Rattle.tree_core.proofs.Alike.{alike_all, alike_ascends, alike_begins, alike_count, counted_in, first_found, firsts_all, firsts_ascend, IsAlike, IsFirst, stands_once}
 use Rattle.tree_core.proofs.Stages.{each_stage, in_stage, length_stages, pairs_map, pairs_stages, stage_nodes}
@@ -102,7 +102,7 @@ tree_few stages owners =
     length_stages (nodes_at owners) stages (length owners) (λ t.
     let mark = mark_of owners t in
     let n = length owners in
-    omega (arith, length-map (groups mark n) (node t), length-map (firsts mark n) (alike mark n), length-filter (λ s. not (is_taken mark s (mark s))) (range_with_len 0 n), count_by-le-length (λ s. not (is_taken mark s (mark s))) (range_with_len 0 n), length-range_with_len 0 n))
+    omega (arith, length-map (groups mark n) (node t), length-map (firsts mark n) (alike mark n), length-filter (λ s. not (is_marked_before mark s (mark s))) (range_with_len 0 n), count_by-le-length (λ s. not (is_marked_before mark s (mark s))) (range_with_len 0 n), length-range_with_len 0 n))
 
 -- of the node of a mark it is asked whether it is of the stage and the mark
 holds_is : (owners : List (List ℕ)) (v f s t : ℕ) → s < length owners → holds s t (node v (alike (mark_of owners v) (length owners) f)) ≡ ((v == t) && (mark_of owners v f == mark_of owners v s))

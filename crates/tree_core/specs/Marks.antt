@@ -10,12 +10,12 @@ abbrev pub mark_of : List (List ℕ) → ℕ → ℕ → ℕ
 mark_of owners t s = slice_index_or (slice_index_or owners s []) (t - 1) 0
 
 -- whether a scenario before n has this mark
-abbrev pub is_taken : (ℕ → ℕ) → ℕ → ℕ → Bool
-is_taken mark n key = list_any (λ u. mark u == key) (range_with_len 0 n)
+abbrev pub is_marked_before : (ℕ → ℕ) → ℕ → ℕ → Bool
+is_marked_before mark n key = list_any (λ u. mark u == key) (range_with_len 0 n)
 
 -- the first scenario of each mark among those below n, in ascending order
 abbrev pub firsts : (ℕ → ℕ) → ℕ → List ℕ
-firsts mark n = filter (λ s. not (is_taken mark s (mark s))) (range_with_len 0 n)
+firsts mark n = filter (λ s. not (is_marked_before mark s (mark s))) (range_with_len 0 n)
 
 -- the scenarios below n that have the mark of s, in ascending order
 abbrev pub alike : (ℕ → ℕ) → ℕ → ℕ → List ℕ

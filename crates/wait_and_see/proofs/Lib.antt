@@ -1,2 +1,2 @@
-pub mod Weighing
+mod Weighing
 pub mod Points

@@ -12,7 +12,7 @@ use Rattle.base_words.proofs.ListSums.{sum_z-cons}
 use Rattle.base_words.proofs.Magnitudes.{abs-add}
 use Rattle.base_words.proofs.SumBounds.{sum_below-abs}
 use Rattle.boxed_problem.specs.Data.{Problem}
-use Rattle.boxed_problem.specs.Facts.{column_size, value_size}
+use Rattle.boxed_problem.specs.BoxedFacts.{column_size, value_size}
 use Rattle.boxed_problem.specs.Objective.{value_of, value_part}
 use Rattle.boxed_problem.specs.Optimum.{IsFirstLeast}
 use Rattle.boxed_problem.specs.Points.{InBox}

@@ -1,2 +1,2 @@
-pub mod Phasing
-pub mod Benches
+mod Phasing
+mod Benches

@@ -1,1 +1,1 @@
-pub mod Spelled
+mod Spelled

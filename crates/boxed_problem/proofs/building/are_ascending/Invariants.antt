@@ -1,5 +1,5 @@
 use Rattle.std.proofs.Common.{ℕ, ◌+◌, ◌<◌}
-use Rattle.boxed_problem.specs.Facts.{ComesBefore, entry_at}
+use Rattle.boxed_problem.specs.BoxedFacts.{ComesBefore, entry_at}
 use Rattle.boxed_problem.proofs.building.are_ascending.Given as goal
 
 abbrev pub invariant-loop-next : goal.invariant-loop-next

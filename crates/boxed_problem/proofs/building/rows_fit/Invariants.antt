@@ -1,5 +1,5 @@
 use Rattle.std.proofs.Common.{ℕ, ◌<◌, ◌≤◌, ◌^◌}
-use Rattle.boxed_problem.specs.Facts.{row_size}
+use Rattle.boxed_problem.specs.BoxedFacts.{row_size}
 use Rattle.boxed_problem.proofs.building.rows_fit.Given as goal
 
 abbrev pub invariant-loop-row : goal.invariant-loop-row

@@ -1,7 +1,7 @@
 use Rattle.std.proofs.Common.{arith, ◌+◌, ◌+ℤ◌, FitsSigned, to_z, rules}
 use Rattle.std.proofs.lemmas.Int.{to_z-of_z}
 use Rattle.std.specs.Int.{w128}
-use Rattle.boxed_problem.specs.Facts.{no_entry}
+use Rattle.boxed_problem.specs.BoxedFacts.{no_entry}
 use Rattle.boxed_problem.proofs.Magnitudes.{activity_fits, activity_next}
 use Rattle.boxed_problem.proofs.feasibility.row_activity.Goals as goal
 

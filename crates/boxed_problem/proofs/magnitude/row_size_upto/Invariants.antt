@@ -1,6 +1,6 @@
 use Rattle.std.proofs.Common.{◌≡◌, ◌+◌, ◌≤◌, take}
 use Rattle.std.specs.List.{sum_by}
-use Rattle.boxed_problem.specs.Facts.{entry_size, limits_at, limits_size}
+use Rattle.boxed_problem.specs.BoxedFacts.{entry_size, limits_at, limits_size}
 use Rattle.boxed_problem.proofs.magnitude.row_size_upto.Given as goal
 
 abbrev pub invariant-loop-entry : goal.invariant-loop-entry

@@ -1,7 +1,7 @@
 use Rattle.std.proofs.Common.{arith, ap, suc, ◌+◌, ◌*◌, ◌≤◌, length, FitsSigned, unsigned_abs, rules}
 use Rattle.std.proofs.lemmas.Int.{to_z-of_z}
 use Rattle.std.specs.Int.{w128}
-use Rattle.boxed_problem.specs.Facts.{column_size}
+use Rattle.boxed_problem.specs.BoxedFacts.{column_size}
 use Rattle.boxed_problem.specs.Sides.{reach, side_at}
 use Rattle.base_words.specs.Sums.{number_at, size_below}
 use Rattle.base_words.proofs.SumBounds.{size_below-le}

@@ -1,5 +1,5 @@
 use Rattle.std.proofs.Common.{◌≡◌, ◌+◌, ◌≤◌, unsigned_abs}
-use Rattle.boxed_problem.specs.Facts.{column_size}
+use Rattle.boxed_problem.specs.BoxedFacts.{column_size}
 use Rattle.base_words.specs.Sums.{size_below}
 use Rattle.boxed_problem.proofs.magnitude.value_size_upto.Given as goal
 

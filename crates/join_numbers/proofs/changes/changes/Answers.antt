@@ -7,7 +7,7 @@ use Rattle.stoch_lines.specs.declared.places.StochEntry.{StochEntry}
 use Rattle.stoch_lines.specs.declared.places.StochPlace.TheVariants.{Cost}
 use Rattle.join_words.specs.Parts.{parts_of}
 use Rattle.join_words.specs.RunOf.{change_of}
-use Rattle.join_numbers.specs.Unfit.{IsLargeChange, IsSomeLarge}
+use Rattle.join_numbers.specs.UnfitNumbers.{IsLargeChange, IsSomeLarge}
 use Rattle.join_numbers.proofs.Turns.{any_change, by_unfit, change_next}
 use Rattle.join_numbers.proofs.changes.changes.Goals as goal
 

@@ -7,7 +7,7 @@ use Rattle.smps_words.specs.declared.core_data.CoreEntry.{CoreEntry}
 use Rattle.join_words.specs.Parts.{parts_of}
 use Rattle.join_words.specs.Powers.{stays}
 use Rattle.join_words.specs.RunOf.{entries_of, entry_of}
-use Rattle.join_numbers.specs.Unfit.{IsLargeEntry}
+use Rattle.join_numbers.specs.UnfitNumbers.{IsLargeEntry}
 use Rattle.join_numbers.proofs.Turns.{any_entry, by_unfit, entry_next}
 use Rattle.join_numbers.proofs.entry_list.entries.Goals as goal
 

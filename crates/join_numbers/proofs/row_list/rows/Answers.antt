@@ -3,7 +3,7 @@ use Rattle.std.specs.List.{Any}
 use Rattle.std.proofs.lemmas.Result.{err_from_is_err_and}
 use Rattle.join_words.specs.Parts.{firsts_of, parts_of}
 use Rattle.join_words.specs.RunOf.{row_of, rows_of}
-use Rattle.join_numbers.specs.Unfit.{IsLargeRow}
+use Rattle.join_numbers.specs.UnfitNumbers.{IsLargeRow}
 use Rattle.base_words.proofs.Made.{map_next}
 use Rattle.join_numbers.proofs.Turns.{any_made, by_unfit}
 use Rattle.join_numbers.proofs.row_list.rows.Goals as goal

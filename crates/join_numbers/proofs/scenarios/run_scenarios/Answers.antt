@@ -3,7 +3,7 @@ use Rattle.std.specs.List.{Any}
 use Rattle.std.proofs.lemmas.Result.{err_from_is_err_and}
 use Rattle.join_words.specs.Parts.{parts_of}
 use Rattle.join_words.specs.RunOf.{scenario_of}
-use Rattle.join_numbers.specs.Unfit.{IsLargeScenario}
+use Rattle.join_numbers.specs.UnfitNumbers.{IsLargeScenario}
 use Rattle.join_numbers.proofs.Turns.{any_mapped, by_unfit, list_next}
 use Rattle.join_numbers.proofs.scenarios.run_scenarios.Goals as goal
 

@@ -1,4 +1,4 @@
-use Rattle.line_core.specs.Lines.{may_want_memory}
+use Rattle.line_core.specs.SplitLines.{may_want_memory}
 use Rattle.line_core.proofs.Whole.{whole_within, whole_rise}
 use Rattle.line_core.proofs.line_list.lines.Goals as goal
 

@@ -1,7 +1,7 @@
 use Rattle.std.proofs.Common.{arith, ◌≡◌, ◌*◌, ◌^◌, ◌≤◌, Some, ◌-ℤ◌, unsigned_abs, FitsSigned, rules}
 use Rattle.std.proofs.lemmas.Int.{to_z-of_z}
 use Rattle.std.specs.Int.{w128}
-use Rattle.boxed_problem.specs.Facts.{entry_at, limits_at}
+use Rattle.boxed_problem.specs.BoxedFacts.{entry_at, limits_at}
 use Rattle.boxed_problem.specs.Sides.{reach, side_at}
 use Rattle.propagate.specs.Tightening.{KeepsBelow}
 use Rattle.propagate.proofs.TightLaws.{cut_self, cut_is_below, lower_slack, lower_slack_fits}

@@ -1,7 +1,7 @@
 use Rattle.std.proofs.Common.{arith, sym, subst, ◌+◌, ◌<◌, ◌≤◌, length, slice_set, FitsSigned, rules}
 use Rattle.std.proofs.lemmas.Int.{to_z-of_z}
 use Rattle.std.specs.Int.{w128}
-use Rattle.boxed_problem.specs.Facts.{entry_at}
+use Rattle.boxed_problem.specs.BoxedFacts.{entry_at}
 use Rattle.boxed_problem.specs.Sides.{side_at}
 use Rattle.propagate.specs.Ranged.{IsInside, range_at}
 use Rattle.propagate.specs.Spans.{place_at}

@@ -1,7 +1,7 @@
 use Rattle.std.proofs.Common.{◌+◌, ◌+ℤ◌, FitsSigned, to_z, rules}
 use Rattle.std.proofs.lemmas.Int.{to_z-of_z}
 use Rattle.std.specs.Int.{w128}
-use Rattle.boxed_problem.specs.Facts.{entry_size, no_entry}
+use Rattle.boxed_problem.specs.BoxedFacts.{entry_size, no_entry}
 use Rattle.propagate.specs.Ranges.{high_part, low_part}
 use Rattle.base_words.proofs.SumBounds.{fold_fits, fold_next}
 use Rattle.propagate.proofs.RangeLaws.{high_part-size, low_part-size}

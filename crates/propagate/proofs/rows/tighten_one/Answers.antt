@@ -1,8 +1,8 @@
 use Rattle.std.proofs.Common.{arith, sym, ◌∙◌, ◌≡◌, ◌<◌, ◌≤◌, ◌^◌, false, length}
 use Rattle.std.specs.List.{sum_by}
-use Rattle.boxed_problem.specs.Facts.{entry_size}
+use Rattle.boxed_problem.specs.BoxedFacts.{entry_size}
 use Rattle.boxed_problem.proofs.Narrower.{entries_within}
-use Rattle.boxed_problem.specs.Facts.{entry_at, limits_at}
+use Rattle.boxed_problem.specs.BoxedFacts.{entry_at, limits_at}
 use Rattle.propagate.specs.Ranges.{high_activity, low_activity, misses}
 use Rattle.boxed_problem.proofs.Lying.{within_trans}
 use Rattle.propagate.proofs.TightLaws.{list_ready, ready_stays}

@@ -1,5 +1,5 @@
 use Rattle.std.proofs.Common.{arith, ◌<◌}
-use Rattle.boxed_problem.specs.Facts.{entry_at}
+use Rattle.boxed_problem.specs.BoxedFacts.{entry_at}
 use Rattle.propagate.proofs.SpanLaws.{border_next}
 use Rattle.propagate.proofs.spans.next_border.Goals as goal
 

@@ -1,5 +1,5 @@
 use Rattle.std.proofs.Common.{length, ◌-◌, ℕ, ◌+◌, ◌<◌, ◌≤◌}
-use Rattle.boxed_problem.specs.Facts.{entry_at}
+use Rattle.boxed_problem.specs.BoxedFacts.{entry_at}
 use Rattle.propagate.proofs.spans.next_border.Given as goal
 
 abbrev pub invariant-loop-at : goal.invariant-loop-at

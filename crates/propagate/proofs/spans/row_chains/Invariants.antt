@@ -1,5 +1,5 @@
 use Rattle.std.proofs.Common.{length, ◌≡◌, ℕ, ◌+◌, ◌<◌, ◌≤◌}
-use Rattle.boxed_problem.specs.Facts.{entry_at}
+use Rattle.boxed_problem.specs.BoxedFacts.{entry_at}
 use Rattle.propagate.specs.Spans.{IsFirst, place_at}
 use Rattle.propagate.proofs.spans.row_chains.Given as goal
 

@@ -1,5 +1,5 @@
 use Rattle.std.proofs.Common.{length, ◌≡◌, ◌<◌, ◌-◌}
-use Rattle.boxed_problem.specs.Facts.{entry_at}
+use Rattle.boxed_problem.specs.BoxedFacts.{entry_at}
 use Rattle.propagate.specs.Tightening.{Tightens}
 use Rattle.propagate.proofs.tightening.tighten_row.Given as goal
 

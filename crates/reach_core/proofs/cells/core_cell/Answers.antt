@@ -1,7 +1,7 @@
 use Rattle.std.proofs.Common.{rules, arith, FitsSigned, sym, ap, ◌∙◌, ◌≡◌, ◌<◌, ◌≤◌, List, length, get_or, pos, if◌then◌else◌}
 use Rattle.std.specs.Int.{w128}
 use Rattle.std.proofs.lemmas.Int.{to_z-of_z}
-use Rattle.boxed_problem.specs.Facts.{no_entry}
+use Rattle.boxed_problem.specs.BoxedFacts.{no_entry}
 use Rattle.boxed_problem.specs.declared.parts.Entry.{Entry}
 use Rattle.sp_model.specs.Changes.{is_at}
 use Rattle.sp_model.proofs.EntryOrder.{chain_from}

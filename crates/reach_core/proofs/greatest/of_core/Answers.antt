@@ -1,6 +1,6 @@
 use Rattle.std.proofs.Common.{sym, ◌∙◌, ap, length, map, unsigned_abs}
 use Rattle.std.proofs.lemmas.List.{length-map}
-use Rattle.boxed_problem.specs.Facts.{limits_size}
+use Rattle.boxed_problem.specs.BoxedFacts.{limits_size}
 use Rattle.sp_model.specs.declared.program.Column.{Column}
 use Rattle.sp_model.specs.declared.program.Row.{Row}
 use Rattle.capped_num.specs.Capped.{capped}

@@ -1,5 +1,5 @@
 use Rattle.std.proofs.Common.{◌≡◌, map, take}
-use Rattle.boxed_problem.specs.Facts.{limits_size}
+use Rattle.boxed_problem.specs.BoxedFacts.{limits_size}
 use Rattle.sp_model.specs.Changes.{limits_of}
 use Rattle.sp_model.specs.declared.program.Row.{Row}
 use Rattle.reach_core.proofs.rows.limit_sizes.Given as goal

@@ -1,6 +1,6 @@
 use Rattle.std.proofs.Common.{arith, ◌<◌, ap, get_or, length, take}
 use Rattle.std.proofs.lemmas.List.{get_or_default}
-use Rattle.boxed_problem.specs.Facts.{no_entry}
+use Rattle.boxed_problem.specs.BoxedFacts.{no_entry}
 use Rattle.reach_core.proofs.Data.{sums_long, sums_next}
 use Rattle.reach_core.proofs.rows.row_sums.Goals as goal
 

@@ -1,5 +1,5 @@
 use Rattle.std.proofs.Common.{arith, ap, ◌∙◌, length, get_or, take, pos}
-use Rattle.sp_model.specs.Facts.{is_change}
+use Rattle.sp_model.specs.RunFacts.{is_change}
 use Rattle.sp_model.specs.declared.program.Change.TheVariants.{Cost}
 use Rattle.reach_core.proofs.ScenarioSums.{given_long}
 use Rattle.reach_core.proofs.scenario_rows.give_all.Goals as goal

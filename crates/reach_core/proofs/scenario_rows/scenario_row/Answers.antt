@@ -1,7 +1,7 @@
 use Rattle.std.proofs.Common.{sym, ap, ◌≡◌, ◌∙◌, length, map, List, ℕ}
 use Rattle.std.specs.List.{fold}
 use Rattle.std.proofs.lemmas.List.{length-map}
-use Rattle.boxed_problem.specs.Facts.{limits_size}
+use Rattle.boxed_problem.specs.BoxedFacts.{limits_size}
 use Rattle.sp_model.specs.Changes.{limits_of}
 use Rattle.sp_model.specs.declared.program.Row.{Row}
 use Rattle.reach_core.specs.Changed.{given_by, limited_by, taken_by}

@@ -1,5 +1,5 @@
 use Rattle.std.proofs.Common.{ℕ, ◌<◌}
-use Rattle.boxed_problem.specs.Facts.{limits_at}
+use Rattle.boxed_problem.specs.BoxedFacts.{limits_at}
 use Rattle.boxed_problem.specs.PriceFit.{HasSign}
 use Rattle.base_words.specs.Sums.{number_at}
 use Rattle.row_prices.proofs.fitting.have_signs.Given as goal

@@ -1,7 +1,7 @@
 use Rattle.std.proofs.Common.{arith, ap, add-one, ◌+◌, FitsSigned, rules, ◌≡◌}
 use Rattle.std.proofs.lemmas.Int.{to_z-of_z}
 use Rattle.std.specs.Int.{w128}
-use Rattle.boxed_problem.specs.Facts.{column_size}
+use Rattle.boxed_problem.specs.BoxedFacts.{column_size}
 use Rattle.base_words.specs.Sums.{number_at, size_below}
 use Rattle.row_prices.proofs.fitting.objective_size.Goals as goal
 

@@ -2,7 +2,7 @@ use Rattle.std.proofs.Common.{arith, refl, ap, sym, subst, ◌∙◌, rules, ◌
 use Rattle.std.proofs.lemmas.Int.{to_z-of_z}
 use Rattle.std.specs.Int.{w128}
 use Rattle.boxed_problem.specs.Data.{problem_of}
-use Rattle.boxed_problem.specs.Facts.{no_entry}
+use Rattle.boxed_problem.specs.BoxedFacts.{no_entry}
 use Rattle.base_words.specs.Sums.{number_at}
 use Rattle.safe_bound.specs.PriceBound.{entry_price}
 use Rattle.safe_bound.proofs.KeyedSums.{list_sum}

@@ -3,7 +3,7 @@ use Rattle.std.proofs.lemmas.Int.{to_z-of_z}
 use Rattle.std.specs.Int.{w128}
 use Rattle.std.specs.List.{All}
 use Rattle.capped_num.specs.Capped.{capped}
-use Rattle.sp_model.specs.Facts.{IsScenario}
+use Rattle.sp_model.specs.RunFacts.{IsScenario}
 use Rattle.sp_model.specs.Reaching.{run_reach}
 use Rattle.sp_model.specs.declared.program.Program.{Program}
 use Rattle.reach_core.specs.Places.{AreOrdered, AreThere}

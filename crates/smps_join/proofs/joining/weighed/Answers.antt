@@ -7,7 +7,7 @@ use Rattle.stoch_lines.specs.declared.places.StochEntry.{StochEntry}
 use Rattle.scenario_lists.specs.ScenarioList.{count_of, scenarios_of}
 use Rattle.scenario_lists.specs.declared.data.ScenarioData.{ScenarioData}
 use Rattle.join_numbers.specs.Changing.{IsFrameOf}
-use Rattle.join_numbers.specs.Unfit.{ByUnfit}
+use Rattle.join_numbers.specs.UnfitNumbers.{ByUnfit}
 use Rattle.join_numbers.specs.declared.fault.MakeFault.{MakeFault}
 use Rattle.join_words.specs.declared.frame.Frame.{Frame}
 use Rattle.sp_model.specs.declared.program.Program.{Program}

@@ -1,6 +1,6 @@
 use Rattle.std.proofs.Common.{arith, sym, ◌≡◌, false, length, get_or}
 use Rattle.std.proofs.lemmas.List.Sums.{prefix_len_is}
-use Rattle.boxed_problem.specs.Facts.{no_entry}
+use Rattle.boxed_problem.specs.BoxedFacts.{no_entry}
 use Rattle.sp_model.specs.Changes.{is_before}
 use Rattle.sp_model.proofs.placing.place_of.Goals as goal
 

@@ -2,7 +2,7 @@ use Rattle.std.proofs.Common.{arith, ap, ◌∙◌, ◌≡◌, suc, ◌+◌, ◌
 use Rattle.std.proofs.lemmas.Int.{to_z-of_z}
 use Rattle.std.specs.Int.{w128}
 use Rattle.boxed_problem.specs.Data.{problem_of}
-use Rattle.boxed_problem.specs.Facts.{row_size}
+use Rattle.boxed_problem.specs.BoxedFacts.{row_size}
 use Rattle.boxed_problem.specs.PriceFit.{price_part}
 use Rattle.base_words.specs.Sums.{number_at, size_below}
 use Rattle.base_words.proofs.SumBounds.{size_below-le}

@@ -1,6 +1,6 @@
 use Rattle.std.proofs.Common.{◌≡◌, ◌+◌, ◌*◌, ◌^◌, ◌≤◌, unsigned_abs}
 use Rattle.boxed_problem.specs.Data.{problem_of}
-use Rattle.boxed_problem.specs.Facts.{value_size}
+use Rattle.boxed_problem.specs.BoxedFacts.{value_size}
 use Rattle.boxed_problem.specs.PriceFit.{price_part}
 use Rattle.base_words.specs.Sums.{size_below}
 use Rattle.boxed_problem.proofs.problem.Boxed.is_small.Given as goal

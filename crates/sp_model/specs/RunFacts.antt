@@ -4,7 +4,7 @@ use Rattle.std.specs.Prelude.{◌≡◌, ℕ, ◌+◌, ◌*◌, ◌^◌, ◌<◌
 use Rattle.std.specs.List.{All, AllPairs, count_by, list_any, range_with_len, sum_by}
 use Rattle.std.specs.Ordering.{int_eq}
 use Rattle.base_words.specs.ListSums.{sum_z}
-use Rattle.boxed_problem.specs.Facts.{ComesBefore, entry_at}
+use Rattle.boxed_problem.specs.BoxedFacts.{ComesBefore, entry_at}
 use Rattle.boxed_problem.specs.declared.parts.Entry.{Entry}
 use Rattle.tree_core.specs.Nodes.{IsNode, Precedes, SameNode, StandsOnce}
 use Rattle.tree_core.specs.declared.tree.Node.{Node}
