@@ -26,15 +26,18 @@ entry_at entries k = slice_index_or entries k no_entry
 -- column j's part in a value, at any point of the box, has at most this magnitude
 abbrev pub column_size : List Side → List ℤ → List ℤ → ℕ → ℕ
 column_size columns line square j =
-    unsigned_abs (number_at line j) * reach (side_at columns j) + unsigned_abs (number_at square j) * (reach (side_at columns j) * reach (side_at columns j))
+    unsigned_abs (number_at line j) * reach (side_at columns j) + unsigned_abs (number_at square j)
+        * (reach (side_at columns j) * reach (side_at columns j))
 
 -- the magnitude of the constant and the parts of all columns
 abbrev pub value_size : List Side → ℤ → List ℤ → List ℤ → ℕ
-value_size columns constant line square = unsigned_abs constant + size_below (length columns) (column_size columns line square)
+value_size columns constant line square =
+  unsigned_abs constant + size_below (length columns) (column_size columns line square)
 
 -- an entry's part in row i's activity, at any point of the box, has at most this magnitude
 abbrev pub entry_size : List Side → ℕ → Entry → ℕ
-entry_size columns i e = if e.row == i then unsigned_abs e.value * reach (side_at columns e.column) else 0
+entry_size columns i e =
+  if e.row == i then unsigned_abs e.value * reach (side_at columns e.column) else 0
 
 -- the magnitude of a limit, 0 where there is none
 abbrev pub limit_size : Option ℤ → ℕ
@@ -47,19 +50,22 @@ limits_size limits = max (limit_size limits.lower) (limit_size limits.upper)
 
 -- the magnitude of row i's limits and the parts of all its entries
 abbrev pub row_size : List Side → List Limits → List Entry → ℕ → ℕ
-row_size columns rows entries i = limits_size (limits_at rows i) + sum_by (entry_size columns i) entries
+row_size columns rows entries i =
+  limits_size (limits_at rows i) + sum_by (entry_size columns i) entries
 
 -- ascending by column, and by row within a column
 abbrev pub ComesBefore : Entry → Entry → Type 0
 ComesBefore e f = (e.column ≤ f.column) × (e.column ≡ f.column → e.row < f.row)
 
 -- the facts that a problem keeps
-pub record IsBoxed (columns : List Side) (rows : List Limits) (entries : List Entry) (constant : ℤ) (line square : List ℤ) : Type 0 where
+pub record IsBoxed (columns : List Side) (rows : List Limits) (entries : List Entry) (constant : ℤ)
+  (line square : List ℤ) : Type 0 where
   pub lines : length line ≡ length columns
   pub squares : length square ≡ length columns
   pub filled : All (λ s. s.lower ≤ℤ s.upper) columns
   pub convex : All (λ q. pos 0 ≤ℤ q) square
   pub places : All (λ e. (e.row < length rows) × (e.column < length columns)) entries
-  pub ascending : (k : ℕ) → k + 1 < length entries → ComesBefore (entry_at entries k) (entry_at entries (k + 1))
+  pub ascending : (k : ℕ) → k + 1 < length entries
+      → ComesBefore (entry_at entries k) (entry_at entries (k + 1))
   pub value_fits : value_size columns constant line square ≤ 2 ^ 122
   pub rows_fit : (i : ℕ) → i < length rows → row_size columns rows entries i ≤ 2 ^ 122

@@ -25,7 +25,8 @@ next_point (s ∷ ss) (v ∷ x) = next_with s ss v (next_point ss x)
 
 -- the points whose first value is above v
 abbrev pub points_above : Side → List Side → ℤ → List (List ℤ)
-points_above s ss v = flat_map (λ w. map (λ x. w ∷ x) (box_points ss)) (run_from (v +ℤ pos 1) (count_to (s.upper -ℤ (v +ℤ pos 1))))
+points_above s ss v = flat_map (λ w. map (λ x. w ∷ x) (box_points ss))
+  (run_from (v +ℤ pos 1) (count_to (s.upper -ℤ (v +ℤ pos 1))))
 
 -- the points of a box from x on
 abbrev pub points_from : List Side → List ℤ → List (List ℤ)
@@ -38,7 +39,8 @@ abbrev pub points_after : List Side → Option (List ℤ) → List (List ℤ)
 points_after box None = []
 points_after box (Some x) = points_from box x
 
--- the values from column j on were the greatest and are now the least; those before it are unchanged
+-- the values from column j on were the greatest and are now the least; those before it are
+-- unchanged
 abbrev pub WrappedFrom : ℕ → List Side → List ℤ → List ℤ → Type 0
 WrappedFrom zero box old new = (next_point box old ≡ None) × (new ≡ corner box)
 WrappedFrom (suc j) [] old new = ⊥

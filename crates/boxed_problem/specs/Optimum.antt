@@ -11,7 +11,8 @@ use Rattle.boxed_problem.specs.Data.{Problem}
 -- a point of the box whose activity lies in the limits of each row
 pub record Feasible (b : Problem) (x : List ℤ) : Type 0 where
   pub inside : InBox b.columns x
-  pub rows : (i : ℕ) → i < length b.rows → IsTrue (meets (limits_at b.rows i) (activity b.entries x i))
+  pub rows : (i : ℕ) → i < length b.rows
+      → IsTrue (meets (limits_at b.rows i) (activity b.entries x i))
 
 -- whether a point meets all rows
 abbrev pub meets_all : Problem → List ℤ → Bool

@@ -74,7 +74,8 @@ fn are_parts(
     line: &[i128],
     square: &[i128],
 ) -> bool
-    ensures { IsTrue result ↔ IsBoxed columns.now rows.now entries.now constant line.now square.now }
+    ensures { IsTrue result ↔ IsBoxed columns.now rows.now entries.now constant line.now
+        square.now }
 {
     if line.len() != columns.len() || square.len() != columns.len() {
         return false;

@@ -29,4 +29,5 @@ behind s (Some h) = Some (record { low = s ∷ h.low; high = s ∷ h.high })
 abbrev pub halves : List Side → Option Halves
 halves [] = None
 halves (s ∷ ss) =
-    if int_lt s.lower s.upper then Some (record { low = low_half s ∷ ss; high = high_half s ∷ ss }) else behind s (halves ss)
+    if int_lt s.lower s.upper then Some (record { low = low_half s ∷ ss; high = high_half s ∷ ss })
+        else behind s (halves ss)

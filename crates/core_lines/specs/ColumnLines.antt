@@ -36,22 +36,26 @@ begins names line = is_none (number_of (field 0 line) names)
 -- the entry or cost of a pair, unless its row is ignored
 abbrev pub cell_for : Option ℕ → ℕ → Decimal → ℕ → List Cell
 cell_for None column value number = []
-cell_for (Some place) column value number = record { row = place; column = column; value = value; line = number } ∷ []
+cell_for (Some place) column value number = record { row = place; column = column; value = value;
+  line = number } ∷ []
 
 -- that of the pair at field k of a line
 abbrev pub cell_in : RowsSaid → List (List ℕ) → ℕ → TextLine → List Cell
-cell_in rows names k line = cell_for (row_place rows (field k line)) (column_number names (field 0 line)) (number_in (field (k + 1) line)) line.number
+cell_in rows names k line = cell_for (row_place rows (field k line))
+  (column_number names (field 0 line)) (number_in (field (k + 1) line)) line.number
 
 -- whether a line has a second pair
 abbrev pub has_second : TextLine → Bool
 has_second line = field_count line == 5
 
--- what a line adds to the names of the columns, to their flags, to the markers, and to the entries and costs
+-- what a line adds to the names of the columns, to their flags, to the markers, and to the entries
+-- and costs
 abbrev pub words_in : TextLine → List (List ℕ)
 words_in line = if is_marker line then [] else field 0 line ∷ []
 
 abbrev pub flags_in : List (List ℕ) → Bool → TextLine → List Bool
-flags_in names marked line = if is_marker line then [] else (if begins names line then marked ∷ [] else [])
+flags_in names marked line =
+  if is_marker line then [] else (if begins names line then marked ∷ [] else [])
 
 abbrev pub marks_in : TextLine → List Bool
 marks_in line = if is_marker line then bytes_eq (field 2 line) begin_word ∷ [] else []
@@ -92,16 +96,22 @@ pair_fault rows k line =
     first_true ((is_unknown rows (field k line), UnknownRow) ∷ [])
     or number_fault kind_of_number (field (k + 1) line)
 
--- whether the lines of a column stand together: it begins with this line, or the line before is its own
+-- whether the lines of a column stand together: it begins with this line, or the line before is its
+-- own
 abbrev pub stands_together : ColumnsSaid → TextLine → Bool
 stands_together columns line =
-    begins columns.names line || (columns.going && (column_number columns.names (field 0 line) + 1 == length columns.names))
+    begins columns.names line
+        || (columns.going && (column_number columns.names (field 0 line) + 1
+        == length columns.names))
 
 -- whether a line has an entry that is there already
 abbrev pub repeats : RowsSaid → ColumnsSaid → TextLine → Bool
 repeats rows columns line =
-    has_cell columns.cells (row_place rows (field 1 line)) (column_number columns.names (field 0 line))
-    || (has_second line && (has_cell columns.cells (row_place rows (field 3 line)) (column_number columns.names (field 0 line)) || is_same_row (row_place rows (field 1 line)) (row_place rows (field 3 line))))
+    has_cell columns.cells (row_place rows (field 1 line))
+        (column_number columns.names (field 0 line))
+    || (has_second line && (has_cell columns.cells (row_place rows (field 3 line))
+        (column_number columns.names (field 0 line))
+        || is_same_row (row_place rows (field 1 line)) (row_place rows (field 3 line))))
 
 -- the fault of a marker: three fields, of which the third begins or ends
 abbrev pub marker_fault : TextLine → Option CoreKind
@@ -110,7 +120,8 @@ marker_fault line = first_true (
     ∷ (not (bytes_eq (field 2 line) begin_word || bytes_eq (field 2 line) end_word), Fields)
     ∷ [])
 
--- the fault of a column's line: three or five fields, at most 5000 columns, the pairs, and nothing twice
+-- the fault of a column's line: three or five fields, at most 5000 columns, the pairs, and nothing
+-- twice
 abbrev pub pairs_fault : RowsSaid → ColumnsSaid → TextLine → Option CoreKind
 pairs_fault rows columns line =
     first_true (
@@ -125,4 +136,5 @@ pairs_fault rows columns line =
     ∷ [])
 
 abbrev pub column_fault : RowsSaid → ColumnsSaid → TextLine → Option CoreKind
-column_fault rows columns line = if is_marker line then marker_fault line else pairs_fault rows columns line
+column_fault rows columns line =
+  if is_marker line then marker_fault line else pairs_fault rows columns line

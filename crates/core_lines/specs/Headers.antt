@@ -55,7 +55,8 @@ has_columns Ranges = true
 has_columns Bounds = true
 has_columns _ = false
 
--- whether a header may stand behind these: NAME first, ROWS first or behind NAME, COLUMNS behind ROWS, then RHS, RANGES and BOUNDS once each, and ENDATA
+-- whether a header may stand behind these: NAME first, ROWS first or behind NAME, COLUMNS behind
+-- ROWS, then RHS, RANGES and BOUNDS once each, and ENDATA
 abbrev pub is_in_place : HeadersSaid → Section → Bool
 is_in_place headers Name = is_start headers.section
 is_in_place headers Rows = is_start headers.section || is_name headers.section
@@ -89,5 +90,6 @@ header_fault before line = first_true (
     ∷ (not (is_in_place before.headers (section_of_word line)), kinds.Section)
     ∷ (not (is_name (section_of_word line)) && nat_lt 1 (field_count line), kinds.Fields)
     ∷ (is_columns (section_of_word line) && nat_lt (length before.rows.frees) 1, kinds.NoObjective)
-    ∷ (is_ending (section_of_word line) && has_empty_box before.bounds.bounds (length before.columns.names), kinds.EmptyBox)
+    ∷ (is_ending (section_of_word line)
+        && has_empty_box before.bounds.bounds (length before.columns.names), kinds.EmptyBox)
     ∷ [])

@@ -9,10 +9,12 @@ use Rattle.core_lines.specs.declared.cells.Bound.{Bound}
 use Rattle.core_lines.specs.declared.cells.Cell.{Cell}
 use Rattle.core_lines.specs.declared.cells.RowValue.{RowValue}
 
--- of each row, one more than the last column that has a cell there: it tells of the last column and of those to come whether they have one
+-- of each row, one more than the last column that has a cell there: it tells of the last column and
+-- of those to come whether they have one
 pub record ColumnFacts (names : List (List ℕ)) (cells : List Cell) (marks : List ℕ) : Type 0 where
   pub few : length names ≤ max_columns
-  pub same : (place column : ℕ) → length names ≤ column + 1 → list_any (is_cell_of place column) cells ≡ (slice_index marks place == column + 1)
+  pub same : (place column : ℕ) → length names ≤ column + 1
+      → list_any (is_cell_of place column) cells ≡ (slice_index marks place == column + 1)
   pub small : (place : ℕ) → slice_index marks place ≤ length names
   pub columns : All (λ (c : Cell). c.column < length names) cells
   pub values : All (λ (c : Cell). IsShort c.value) cells
@@ -21,7 +23,8 @@ pub record ColumnFacts (names : List (List ℕ)) (cells : List Cell) (marks : Li
 
 -- whether each row has a value already
 pub record SideFacts (values : List RowValue) (flags : List Bool) : Type 0 where
-  pub same : (place : ℕ) → list_any (λ (v : RowValue). v.row == place) values ≡ slice_index_or flags place false
+  pub same : (place : ℕ) → list_any (λ (v : RowValue). v.row == place) values
+      ≡ slice_index_or flags place false
   pub shorts : All (λ (v : RowValue). IsShort v.value) values
 
 -- whether a line spoke of each column's lower end already

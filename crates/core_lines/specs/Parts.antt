@@ -13,13 +13,15 @@ pub record HeadersSaid : Type 0 where
   pub ranges : Bool
   pub bounds : Bool
 
--- ROWS: the names and kinds of the constraint rows, and the names of the rows of kind N, of which the first is the objective
+-- ROWS: the names and kinds of the constraint rows, and the names of the rows of kind N, of which
+-- the first is the objective
 pub record RowsSaid : Type 0 where
   pub names : List (List ℕ)
   pub kinds : List RowKind
   pub frees : List (List ℕ)
 
--- COLUMNS: the columns' names, whether each stands between markers, whether the last marker began the integer columns, whether the last line was a column's, and the entries and costs
+-- COLUMNS: the columns' names, whether each stands between markers, whether the last marker began
+-- the integer columns, whether the last line was a column's, and the entries and costs
 pub record ColumnsSaid : Type 0 where
   pub names : List (List ℕ)
   pub flags : List Bool
@@ -27,7 +29,8 @@ pub record ColumnsSaid : Type 0 where
   pub going : Bool
   pub cells : List Cell
 
--- RHS or RANGES: the name of the used set, which is that of the first line, empty where it has none, and what the lines of that set say
+-- RHS or RANGES: the name of the used set, which is that of the first line, empty where it has
+-- none, and what the lines of that set say
 pub record SidesSaid : Type 0 where
   pub set : Option (List ℕ)
   pub values : List RowValue

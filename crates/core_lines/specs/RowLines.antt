@@ -10,7 +10,8 @@ use Rattle.core_lines.specs.Words.{row_kind_named}
 use Rattle.core_lines.specs.declared.kinds.CoreKind.{CoreKind}
 use Rattle.core_lines.specs.declared.kinds.CoreKind.TheVariants.{Fields, Twice, Limit}
 
--- the number of a row by its name, counted with the objective as 0 and the constraint rows from 1; none for a later row of kind N, which is ignored
+-- the number of a row by its name, counted with the objective as 0 and the constraint rows from 1;
+-- none for a later row of kind N, which is ignored
 abbrev pub row_named : RowsSaid → List ℕ → Option (Option ℕ)
 row_named rows name =
     option_map (λ i. Some (i + 1)) (number_of name rows.names)
@@ -29,7 +30,8 @@ abbrev pub is_free_kind : Option (Option RowKind) → Bool
 is_free_kind None = false
 is_free_kind (Some kind) = is_none kind
 
--- what a line of this kind adds to the kinds of the constraint rows, to their names, and to those of kind N
+-- what a line of this kind adds to the kinds of the constraint rows, to their names, and to those
+-- of kind N
 abbrev pub kinds_added : Option (Option RowKind) → List RowKind
 kinds_added None = []
 kinds_added (Some None) = []
@@ -58,7 +60,8 @@ frees_in line = frees_added (row_kind_named (field 0 line)) (field 1 line)
 -- what the rows are after one more line, if it is a line of ROWS
 abbrev pub rows_next : Bool → RowsSaid → TextLine → RowsSaid
 rows_next false rows line = rows
-rows_next true rows line = record { names = rows.names ++ names_in line; kinds = rows.kinds ++ kinds_in line; frees = rows.frees ++ frees_in line }
+rows_next true rows line = record { names = rows.names ++ names_in line;
+  kinds = rows.kinds ++ kinds_in line; frees = rows.frees ++ frees_in line }
 
 -- whether there is no place for a row of this kind
 abbrev pub is_full : RowsSaid → Option (Option RowKind) → Bool

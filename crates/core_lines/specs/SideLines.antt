@@ -23,7 +23,8 @@ has_set_name line = (field_count line == 3) || (field_count line == 5)
 abbrev pub set_name : TextLine → List ℕ
 set_name line = if has_set_name line then field 0 line else []
 
--- the field of the first pair's row, and whether there is a second pair, which stands behind the first
+-- the field of the first pair's row, and whether there is a second pair, which stands behind the
+-- first
 abbrev pub first_pair : TextLine → ℕ
 first_pair line = if has_set_name line then 1 else 0
 
@@ -46,23 +47,29 @@ side_in rows k line = side_for (row_place rows (field k line)) (number_in (field
 abbrev pub sides_in : RowsSaid → Option (List ℕ) → TextLine → List RowValue
 sides_in rows set line =
     if is_used set (set_name line)
-    then (side_in rows (first_pair line) line ++ (if has_two_pairs line then side_in rows (first_pair line + 2) line else []))
+    then (side_in rows (first_pair line) line
+        ++ (if has_two_pairs line then side_in rows (first_pair line + 2) line else []))
     else []
 
 -- what the sides are after one more line, if it is a line of their section
 abbrev pub sides_next : Bool → RowsSaid → SidesSaid → TextLine → SidesSaid
 sides_next false rows sides line = sides
-sides_next true rows sides line = record { set = sides.set or Some (set_name line); values = sides.values ++ sides_in rows sides.set line }
+sides_next true rows sides line = record { set = sides.set or Some (set_name line);
+  values = sides.values ++ sides_in rows sides.set line }
 
 -- whether a row that isn't ignored has a value already
 abbrev pub has_side : List RowValue → Option ℕ → Bool
-has_side values place = option_map_or (λ r. list_any (λ (v : RowValue). v.row == r) values) place false
+has_side values place =
+  option_map_or (λ r. list_any (λ (v : RowValue). v.row == r) values) place false
 
 -- whether a line has a value of a row that has one already
 abbrev pub repeats_side : RowsSaid → SidesSaid → TextLine → Bool
 repeats_side rows sides line =
     has_side sides.values (row_place rows (field (first_pair line) line))
-    || (has_two_pairs line && (has_side sides.values (row_place rows (field (first_pair line + 2) line)) || is_same_row (row_place rows (field (first_pair line) line)) (row_place rows (field (first_pair line + 2) line))))
+    || (has_two_pairs line && (has_side sides.values
+        (row_place rows (field (first_pair line + 2) line))
+        || is_same_row (row_place rows (field (first_pair line) line))
+        (row_place rows (field (first_pair line + 2) line))))
 
 -- the fault of the pairs of a line of the used set
 abbrev pub used_fault : RowsSaid → SidesSaid → TextLine → Option CoreKind
@@ -75,7 +82,8 @@ used_fault rows sides line =
 abbrev pub unused_fault : TextLine → Option CoreKind
 unused_fault line =
     number_fault kind_of_number (field (first_pair line + 1) line)
-    or (if has_two_pairs line then number_fault kind_of_number (field (first_pair line + 3) line) else None)
+    or (if has_two_pairs line then number_fault kind_of_number (field (first_pair line + 3) line)
+        else None)
 
 -- the fault of a line: two to five fields, and its pairs
 abbrev pub side_fault : RowsSaid → SidesSaid → TextLine → Option CoreKind

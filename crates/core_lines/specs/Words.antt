@@ -26,7 +26,8 @@ section_named word = unwrap_or (first_true (
     ∷ (bytes_eq word (codes "ENDATA"), sections.End)
     ∷ [])) sections.Other
 
--- the kind of a row by its word: none for N, the kind of a constraint row for L, G and E; other words name no kind
+-- the kind of a row by its word: none for N, the kind of a constraint row for L, G and E; other
+-- words name no kind
 abbrev pub row_kind_named : List ℕ → Option (Option RowKind)
 row_kind_named word = first_true (
     (bytes_eq word (codes "N"), None)

@@ -223,7 +223,8 @@ fn add_pair(columns: &mut ColumnPart, column: u32, pair: RowPair, number: u64) -
 fn begin_column(columns: &mut ColumnPart, begins: bool, name: &[u8]) -> Result<(), Stop>
     requires few { begins ≡ true → length columns.old.names < max_columns }
     requires fresh { begins ≡ is_none (number_of name.now columns.old.names) }
-    ensures { Keeps result (columns_in columns.new ≡ column_begun (columns_in columns.old) name.now) }
+    ensures { Keeps result (columns_in columns.new
+        ≡ column_begun (columns_in columns.old) name.now) }
 {
     columns.going = true;
     if !begins {

@@ -8,7 +8,8 @@ use Rattle.dec_core.specs.declared.decimal.Decimal.{Decimal}
 use Rattle.dec_core.specs.declared.decimal.DecFault.{DecFault}
 use Rattle.dec_core.specs.declared.decimal.DecFault.TheVariants.{NotNumber, TooManyPlaces, TooLarge}
 
--- m / 10^p is the magnitude: the digits' number times the power of ten above, over the power of ten below
+-- m / 10^p is the magnitude: the digits' number times the power of ten above, over the power of ten
+-- below
 abbrev pub IsMagnitude : Spelling → ℕ → ℕ → Type 0
 IsMagnitude s m p = m * 10 ^ s.lowered ≡ digits_value 10 s.digits * 10 ^ s.raised * 10 ^ p
 
@@ -21,7 +22,8 @@ pub record IsValue (s : Spelling) (m p : ℕ) : Type 0 where
 abbrev pub are_enough : Spelling → ℕ → Bool
 are_enough s p = (digits_value 10 s.digits * 10 ^ s.raised * 10 ^ p) % 10 ^ s.lowered == 0
 
--- the least number of places that is enough, of those below the power of ten below, which is always enough
+-- the least number of places that is enough, of those below the power of ten below, which is always
+-- enough
 unfoldable pub places_of : Spelling → ℕ
 places_of s = position_or_len (are_enough s) (range_with_len 0 s.lowered)
 

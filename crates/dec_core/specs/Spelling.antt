@@ -47,7 +47,8 @@ abbrev pub lowered_by : Option (List ℕ) → ℕ
 lowered_by None = 0
 lowered_by (Some text) = if has_minus text then digits_value 10 (unsigned_text text) else 0
 
--- how a number is spelled: its sign, its digits as one row, and the powers of ten by which their number is multiplied and divided
+-- how a number is spelled: its sign, its digits as one row, and the powers of ten by which their
+-- number is multiplied and divided
 pub record Spelling : Type 0 where
   pub negative : Bool
   pub digits : List ℕ
@@ -74,16 +75,20 @@ ends_well whole fraction exponent = is_exponent exponent && has_digit whole frac
 -- the parts of a number: digits before and behind the point, at least one, and an exponent or none
 abbrev pub are_parts : List ℕ → List ℕ → Option (List ℕ) → Bool
 are_parts whole fraction exponent =
-    (list_all is_ascii_digit whole && list_all is_ascii_digit fraction) && ends_well whole fraction exponent
+    (list_all is_ascii_digit whole && list_all is_ascii_digit fraction)
+        && ends_well whole fraction exponent
 
 -- the spelling with these parts, if they are a number's
 abbrev pub spelling_with : Bool → List ℕ → List ℕ → Option (List ℕ) → Option Spelling
 spelling_with negative whole fraction exponent =
-    if are_parts whole fraction exponent then Some (spelled negative whole fraction exponent) else None
+    if are_parts whole fraction exponent then Some (spelled negative whole fraction exponent)
+        else None
 
--- the spelling of a text, or none where it is no number: behind the sign and before the mark stand the digits, cut at the first point
+-- the spelling of a text, or none where it is no number: behind the sign and before the mark stand
+-- the digits, cut at the first point
 unfoldable pub spelling_of : List ℕ → Option Spelling
 spelling_of text =
     let number = unsigned_text text in
     let mantissa = before_first is_mark number in
-    spelling_with (has_minus text) (before_first is_point mantissa) (after_first is_point mantissa) (exponent_text number)
+    spelling_with (has_minus text) (before_first is_point mantissa) (after_first is_point mantissa)
+        (exponent_text number)

@@ -11,7 +11,8 @@ max_significand = 10 ^ 37
 abbrev pub max_exponent : ℕ
 max_exponent = 2 ^ 100
 
--- n is a number with these zeros behind it; the number itself ends in 0 only where it is 0, and is known up to its cap
+-- n is a number with these zeros behind it; the number itself ends in 0 only where it is 0, and is
+-- known up to its cap
 pub record IsStripped (n value zeros : ℕ) : Type 0 where
   pub number : ℕ
   pub exact : n ≡ number * 10 ^ zeros
@@ -20,4 +21,5 @@ pub record IsStripped (n value zeros : ℕ) : Type 0 where
 
 -- a significand of the number that is written by these digits
 abbrev pub IsSignificandOf : List ℕ → Significand → Type 0
-IsSignificandOf digits significand = IsStripped (digits_value 10 digits) significand.value significand.zeros
+IsSignificandOf digits significand =
+  IsStripped (digits_value 10 digits) significand.value significand.zeros

@@ -22,7 +22,8 @@ made_of hedge = record { put = hedge.put; plan = hedge.plan }
 abbrev pub IsFirst : Run → Hedge → Type 0
 IsFirst run hedge = (put_of run 1 ≡ Some (made_of hedge)) × (wait_and_see_of run ≡ Some hedge.bound)
 
--- the search of scenario s is spent: all boxes of the budget were opened, the plain search opens more, and each scenario before has a point
+-- the search of scenario s is spent: all boxes of the budget were opened, the plain search opens
+-- more, and each scenario before has a point
 pub record IsSpent (run : Run) (s opened : ℕ) : Type 0 where
   pub there : s < scenarios run
   pub before : HavePoints run s

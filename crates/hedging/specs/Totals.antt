@@ -23,5 +23,8 @@ node_sums run x n = map (λ j. sum_of run x n.scenarios j) (range_with_len 0 (no
 
 -- the weights and the sums of all nodes
 pub record AreTotals (run : Run) (x : List ℤ) (totals : Totals) : Type 0 where
-  pub weights : totals.weights ≡ map (λ n. weight_of run (node_at run n).scenarios) (range_with_len 0 (length run.program.tree.nodes))
-  pub sums : totals.sums ≡ map (λ n. node_sums run x (node_at run n)) (range_with_len 0 (length run.program.tree.nodes))
+  pub weights : totals.weights
+      ≡ map (λ n. weight_of run (node_at run n).scenarios)
+      (range_with_len 0 (length run.program.tree.nodes))
+  pub sums : totals.sums ≡ map (λ n. node_sums run x (node_at run n))
+      (range_with_len 0 (length run.program.tree.nodes))

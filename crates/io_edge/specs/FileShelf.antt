@@ -17,5 +17,7 @@ abbrev pub count_of : {R : Type 0} → FileShelf R → ℕ
 count_of shelf = shelf.faults
 
 -- a store leaves the files so
-abbrev pub StoreLeavesFiles : {R U : Type 0} → FileShelf R → FileShelf R → List ℕ → List ℕ → Result U EdgeFault → Type 0
-StoreLeavesFiles old new name bytes result = StoreLeaves (files_of old) (files_of new) name bytes result
+abbrev pub StoreLeavesFiles : {R U : Type 0} → FileShelf R → FileShelf R → List ℕ → List ℕ
+  → Result U EdgeFault → Type 0
+StoreLeavesFiles old new name bytes result =
+  StoreLeaves (files_of old) (files_of new) name bytes result

@@ -106,7 +106,8 @@ pub fn row_places(
 ) -> Result<List<u8>, AllocError>
     requires long { length sides.now ≡ length core.now.columns }
     requires named { All (λ (e : StochEntry). IsNamed sides.now e.place) entries.now }
-    requires rows { All (λ (e : StochEntry). IsRowNamed (length core.now.rows) e.place) entries.now }
+    requires rows { All (λ (e : StochEntry). IsRowNamed (length core.now.rows) e.place)
+        entries.now }
     ensures { IfOk result
         (λ places. places
         ≡ map (row_places (parts_of core.now) sides.now entries.now)

@@ -106,7 +106,8 @@ fn push(
     requires frame { IsFrameOf core.now frame.now }
     requires there { IsPlace core.now entry.now.place }
     ensures ok { OnOk result
-        (changes.new ≡ with_change changes.old (change_of (parts_of core.now) frame.now entry.now)) }
+        (changes.new ≡ with_change changes.old
+            (change_of (parts_of core.now) frame.now entry.now)) }
     ensures err { IfErr result
         (ByUnfit (IsSomeLarge (change_of (parts_of core.now) frame.now entry.now))) }
 {

@@ -39,7 +39,8 @@ fn limit_above(rhs: i128, range: Decimal, places: u8) -> Result<Option<i128>, Un
 fn lower(row: &CoreRow, rhs: i128, places: u8) -> Result<Option<i128>, Unfit>
     requires { places ≤ 9 }
     ensures { IsLimit result
-        (lower_limit row.now.kind rhs (option_map (λ range. scaled_to range places) row.now.range)) }
+        (lower_limit row.now.kind rhs
+            (option_map (λ range. scaled_to range places) row.now.range)) }
 {
     match (row.kind, row.range) {
         (RowKind::Less, None) => Ok(None),
@@ -59,7 +60,8 @@ fn lower(row: &CoreRow, rhs: i128, places: u8) -> Result<Option<i128>, Unfit>
 fn upper(row: &CoreRow, rhs: i128, places: u8) -> Result<Option<i128>, Unfit>
     requires { places ≤ 9 }
     ensures { IsLimit result
-        (upper_limit row.now.kind rhs (option_map (λ range. scaled_to range places) row.now.range)) }
+        (upper_limit row.now.kind rhs
+            (option_map (λ range. scaled_to range places) row.now.range)) }
 {
     match (row.kind, row.range) {
         (RowKind::Greater, None) => Ok(None),

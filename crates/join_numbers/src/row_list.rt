@@ -36,7 +36,8 @@ fn push(
     requires long { length frame.now.row_places ≡ length core.now.rows }
     requires places { All (λ p. p ≤ 9) frame.now.row_places }
     ensures ok { OnOk result
-        (rows.new ≡ rows.old ++ row_of (parts_of core.now) (firsts_of periods.now) frame.now i ∷ []) }
+        (rows.new ≡ rows.old ++ row_of (parts_of core.now) (firsts_of periods.now) frame.now i
+            ∷ []) }
     ensures err { IfErr result
         (ByUnfit (IsLargeRow (row_of (parts_of core.now) (firsts_of periods.now) frame.now i))) }
 {

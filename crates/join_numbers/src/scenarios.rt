@@ -29,7 +29,8 @@ fn push(
     requires there { All (λ (e : StochEntry). IsPlace core.now e.place) listed.now.entries }
     requires weight { listed.now.weight < 2 ^ 127 }
     ensures ok { OnOk result
-        (scenarios.new ≡ scenarios.old ++ scenario_of (parts_of core.now) frame.now listed.now ∷ []) }
+        (scenarios.new ≡ scenarios.old ++ scenario_of (parts_of core.now) frame.now listed.now
+            ∷ []) }
     ensures err { IfErr result
         (ByUnfit (IsLargeScenario (scenario_of (parts_of core.now) frame.now listed.now))) }
 {

@@ -11,7 +11,8 @@ use Rattle.smps_words.specs.declared.core_data.CoreColumn.{CoreColumn}
 abbrev pub side : ℤ → ℤ → Side
 side lower upper = record { lower = lower; upper = upper }
 
--- the box of these ends: a missing one lies `missing` from the other, and not beyond 10^9; with both missing it reaches as far to each side
+-- the box of these ends: a missing one lies `missing` from the other, and not beyond 10^9; with
+-- both missing it reaches as far to each side
 abbrev pub filled : ℤ → Option ℤ → Option ℤ → Side
 filled missing (Some lower) (Some upper) = side lower upper
 filled missing (Some lower) None = side lower (int_min (lower +ℤ missing) (pos max_end))

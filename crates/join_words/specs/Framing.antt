@@ -9,7 +9,8 @@ use Rattle.join_words.specs.Parts.{Firsts, Parts, all_entries, firsts_of, parts_
 use Rattle.join_words.specs.Powers.{cost_places, row_places}
 use Rattle.join_words.specs.declared.frame.Frame.{Frame}
 
--- what a run is made of: the core's data, the periods, the stoch file, and what fills in missing ends
+-- what a run is made of: the core's data, the periods, the stoch file, and what fills in missing
+-- ends
 pub record Source : Type 0 where
   pub parts : Parts
   pub firsts : Firsts
@@ -33,5 +34,6 @@ frame_of source =
     record {
       sides = sides;
       cost_places = cost_places source.parts sides entries;
-      row_places = map (row_places source.parts sides entries) (range_with_len 0 (length source.parts.rows));
+      row_places =
+          map (row_places source.parts sides entries) (range_with_len 0 (length source.parts.rows));
     }

@@ -1,4 +1,5 @@
--- What joining a core, its periods and a stoch file answers: the run, or the first cause why there is none.
+-- What joining a core, its periods and a stoch file answers: the run, or the first cause why there
+-- is none.
 use Rattle.std.specs.Prelude.{◌≡◌, ℕ, true, false, None, Some, Result, Ok, Err, ℤ}
 use Rattle.smps_words.specs.declared.core_file.Core.{Core}
 use Rattle.smps_words.specs.declared.periods.Periods.{Periods}
@@ -30,13 +31,19 @@ pub record IsJoined (source : Source) (options : Options) (run : Run) : Type 0 w
   pub total : run.total ≡ total_of source
   pub nonleaf : run.nonleaf ≡ nonleaf_of source
 
--- a refusal has its own cause, and none of those before it; memory is asked for only behind the causes that can be told without a list
+-- a refusal has its own cause, and none of those before it; memory is asked for only behind the
+-- causes that can be told without a list
 abbrev pub IsRefused : Source → Options → JoinFault → Type 0
-IsRefused source options (Anticipates line) = IsFirstEarly source.firsts source.parts.entries (Some line)
+IsRefused source options (Anticipates line) =
+  IsFirstEarly source.firsts source.parts.entries (Some line)
 IsRefused source options TooManyScenarios = IsTimely source × (is_crowded source ≡ true)
-IsRefused source options TooManyCells = IsTimely source × (is_crowded source ≡ false) × (is_too_large source ≡ true)
-IsRefused source options (Wide reach) = IsTimely source × (is_crowded source ≡ false) × (is_too_large source ≡ false) × (is_wide source options ≡ true) × (reach ≡ told_reach source options)
-IsRefused source options Memory = IsTimely source × (is_crowded source ≡ false) × (has_many_listed source ≡ false)
+IsRefused source options TooManyCells =
+  IsTimely source × (is_crowded source ≡ false) × (is_too_large source ≡ true)
+IsRefused source options (Wide reach) = IsTimely source × (is_crowded source ≡ false)
+  × (is_too_large source ≡ false) × (is_wide source options ≡ true)
+  × (reach ≡ told_reach source options)
+IsRefused source options Memory =
+  IsTimely source × (is_crowded source ≡ false) × (has_many_listed source ≡ false)
 
 -- what the join answers
 abbrev pub Joins : Result Run JoinFault → Source → Options → Type 0

@@ -1,4 +1,5 @@
--- What a run takes from its files: the data of a core, the first columns and rows of the periods, and all entries of a stoch file.
+-- What a run takes from its files: the data of a core, the first columns and rows of the periods,
+-- and all entries of a stoch file.
 use Rattle.std.specs.Prelude.{◌≡◌, ℕ, ◌≤◌, Bool, true, false, nat_lt, List, length, Option, Some, None, slice_index_or}
 use Rattle.std.specs.List.{All, Any, flat_map}
 use Rattle.dec_core.specs.declared.decimal.Decimal.{Decimal}
@@ -25,7 +26,8 @@ pub record Parts : Type 0 where
   pub constant : Decimal
 
 abbrev pub parts_of : Core → Parts
-parts_of core = record { rows = core.rows; columns = core.columns; entries = core.entries; constant = core.constant }
+parts_of core = record { rows = core.rows; columns = core.columns; entries = core.entries;
+  constant = core.constant }
 
 -- the first column and the first row of each period
 pub record Firsts : Type 0 where
@@ -60,7 +62,8 @@ is_early firsts e = nat_lt (stage_in firsts.rows e.row) (stage_in firsts.columns
 abbrev pub IsFirstEarly : Firsts → List CoreEntry → Option ℕ → Type 0
 IsFirstEarly firsts entries None = All (λ e. is_early firsts e ≡ false) entries
 IsFirstEarly firsts entries (Some line) =
-    Any (λ e. (is_early firsts e ≡ true) × (e.line ≡ line)) entries × All (λ e. is_early firsts e ≡ true → line ≤ e.line) entries
+    Any (λ e. (is_early firsts e ≡ true) × (e.line ≡ line)) entries
+        × All (λ e. is_early firsts e ≡ true → line ≤ e.line) entries
 
 -- the entries of some realisations, of some elements, and of some listed scenarios
 abbrev pub own_entries : List Realisation → List StochEntry

@@ -13,8 +13,10 @@ number_of name names = position (bytes_eq name) names
 abbrev pub AreDistinct : List (List ℕ) → Type 0
 AreDistinct names = AllPairs (λ one other. one ≢ other) names
 
--- what `add` answers, and what it leaves: a new name goes last, and an error changes nothing; memory is asked for a new name alone
+-- what `add` answers, and what it leaves: a new name goes last, and an error changes nothing;
+-- memory is asked for a new name alone
 abbrev pub AddAnswers : List (List ℕ) → List (List ℕ) → List ℕ → Result ℕ NameFault → Type 0
-AddAnswers old new name (Ok number) = (number_of name old ≡ None) × (number ≡ length old) × (new ≡ old ++ name ∷ [])
+AddAnswers old new name (Ok number) =
+  (number_of name old ≡ None) × (number ≡ length old) × (new ≡ old ++ name ∷ [])
 AddAnswers old new name (Err (Twice first)) = (number_of name old ≡ Some first) × (new ≡ old)
 AddAnswers old new name (Err Memory) = (number_of name old ≡ None) × (new ≡ old)

@@ -52,7 +52,9 @@ abbrev pub read_line : ℕ → ℕ → List ℕ → Result (Option Line) LineFau
 read_line number start text =
     if is_comment text then Ok None
     else (if nat_lt max_line_bytes (length text) then Err (TooLong number)
-    else (if is_plain text then Ok (Some (record { number = number; header = is_unindented text; fields = fields_at start text }))
+    else (if is_plain text then Ok
+        (Some (record { number = number; header = is_unindented text;
+        fields = fields_at start text }))
     else Err (NotAscii number)))
 
 -- what the parts between newlines are read as: a carriage return before a newline is dropped
@@ -60,7 +62,8 @@ abbrev pub read_parts : ℕ → ℕ → List (List ℕ) → List (Result (Option
 read_parts number start [] = []
 read_parts number start (part ∷ []) = read_line number start part ∷ []
 read_parts number start (part ∷ next ∷ parts) =
-    read_line number start (without_return part) ∷ read_parts (number + 1) (start + length part + 1) (next ∷ parts)
+    read_line number start (without_return part)
+        ∷ read_parts (number + 1) (start + length part + 1) (next ∷ parts)
 
 -- lines that stand before those that are read after them
 abbrev pub after_lines : List Line → Result (List Line) LineFault → Result (List Line) LineFault
@@ -90,7 +93,8 @@ has_line (Err fault ∷ rest) = false
 has_line (Ok None ∷ rest) = has_line rest
 has_line (Ok (Some line) ∷ rest) = true
 
--- memory is asked for lines alone: a file is refused it only where a line is read before its first fault
+-- memory is asked for lines alone: a file is refused it only where a line is read before its first
+-- fault
 abbrev pub may_want_memory : List ℕ → Bool
 may_want_memory bytes = has_line (read_parts 1 0 (slice_split is_newline bytes))
 
@@ -117,13 +121,16 @@ Gives asked read (Err fault) = IsFaultOf asked read fault
 abbrev pub asks_memory : ℕ → ℕ → List ℕ → Bool
 asks_memory number start text = is_line (read_line number start text)
 
--- a fault that a text is answered with: the one that it is read as, or want of memory where it asks for it
+-- a fault that a text is answered with: the one that it is read as, or want of memory where it asks
+-- for it
 abbrev pub IsLineFault : ℕ → ℕ → List ℕ → LineFault → Type 0
-IsLineFault number start text fault = IsFaultOf (asks_memory number start text) (read_line number start text) fault
+IsLineFault number start text fault =
+  IsFaultOf (asks_memory number start text) (read_line number start text) fault
 
 -- the answer is what a text is read as, or want of memory where it asks for it
 abbrev pub GivesLine : ℕ → ℕ → List ℕ → Result (Option Line) LineFault → Type 0
-GivesLine number start text answer = Gives (asks_memory number start text) (read_line number start text) answer
+GivesLine number start text answer =
+  Gives (asks_memory number start text) (read_line number start text) answer
 
 -- what is read without a fault stands behind the lines
 abbrev pub IsAdded : Result (Option Line) LineFault → List Line → List Line → Type 0

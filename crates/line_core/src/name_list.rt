@@ -26,7 +26,8 @@ impl Model for Names {
 
     ghost view = { λ names. map (λ name. name.items) names.set.keys };
 
-    ghost invariant = { λ names. (length names.set.keys ≤ 2 ^ 32) × IsDistinct (λ one other. bytes_eq one.items other.items) names.set.keys };
+    ghost invariant = { λ names. (length names.set.keys ≤ 2 ^ 32)
+        × IsDistinct (λ one other. bytes_eq one.items other.items) names.set.keys };
 }
 
 /// Why a name wasn't added.

@@ -62,7 +62,8 @@ pub record KeepsRoom (s s' : PlainSeat) : Type 0 where
 abbrev pub room_for : ℕ → ℕ → ℕ → ℕ
 room_for leaders most w = if nat_lt w leaders then 1 else most
 
--- the room of one seat: for the closed entries of its window, for the words of a reading, and for the accepted entries of each window
+-- the room of one seat: for the closed entries of its window, for the words of a reading, and for
+-- the accepted entries of each window
 pub record IsRoomy (leaders count widest most : ℕ) (s : PlainSeat) : Type 0 where
   pub closed : (w : ℕ) → s.window ≡ Some w → room_of s.closed ≡ most
   pub words : room_of s.words ≡ widest
@@ -72,8 +73,10 @@ pub record IsRoomy (leaders count widest most : ℕ) (s : PlainSeat) : Type 0 wh
 abbrev pub HasRoomFor : ℕ → ℕ → ℕ → List (Contents ℕ) → Type 0
 HasRoomFor leaders w k tracks =
     (w < length tracks) × (w < leaders → 0 < room_of (slice_index_or tracks w empty))
-    × (leaders ≤ w → list_any (λ j. nat_eq j k) (slice_index_or tracks w empty).items ≡ false → 0 < (slice_index_or tracks w empty).spare)
+    × (leaders ≤ w → list_any (λ j. nat_eq j k) (slice_index_or tracks w empty).items ≡ false
+        → 0 < (slice_index_or tracks w empty).spare)
 
 -- the same of the window that is being read, where the reading ends whole at the stamp n
 abbrev pub HasRoomToEnd : ℕ → ℕ → PlainSeat → Type 0
-HasRoomToEnd leaders n s = (b : Begun) → s.reading ≡ Some b → is_whole b.first n ≡ true → HasRoomFor leaders b.window (n / 2) s.accepted.items
+HasRoomToEnd leaders n s = (b : Begun) → s.reading ≡ Some b → is_whole b.first n ≡ true
+  → HasRoomFor leaders b.window (n / 2) s.accepted.items

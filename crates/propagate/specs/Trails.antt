@@ -15,7 +15,8 @@ undone_to (suc k) (c ∷ cs) sides = undone_to k cs sides
 abbrev pub sides_at : Trail → ℕ → List Side
 sides_at trail mark = undone_to (place_at trail.marks mark) trail.changes trail.sides
 
--- the first m marks are there as before, each with the same sides under it, and the trail is of the same sparse form
+-- the first m marks are there as before, each with the same sides under it, and the trail is of the
+-- same sparse form
 pub record KeepsMarks (m : ℕ) (old new : Trail) : Type 0 where
   pub more : m ≤ length new.marks
   pub back : (k : ℕ) → k < m → sides_at new k ≡ sides_at old k

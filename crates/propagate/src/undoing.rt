@@ -22,7 +22,8 @@ use wide_num::List;
 /// The range of each row over the columns' boxes.
 fn first_ranges(alloc: Global, sparse: &Sparse) -> Result<List<Range>, AllocError>
     ensures { IfOk result
-        (λ ranges. AreRanges (length sparse.now.rows) sparse.now.entries sparse.now.columns ranges) }
+        (λ ranges. AreRanges (length sparse.now.rows) sparse.now.entries sparse.now.columns
+            ranges) }
 {
     let columns = sparse.columns.as_slice();
     let entries = sparse.entries.as_slice();

@@ -21,8 +21,10 @@ value_at run x s j = number_at x (s * run.nonleaf + j)
 -- a value for each scenario and nonleaf column, each in the box of its column
 pub record AreInside (run : Run) (x : List ℤ) : Type 0 where
   pub long : length x ≡ scenarios run * run.nonleaf
-  pub lower : (s j : ℕ) → s < scenarios run → j < run.nonleaf → (side_at (sides run.program) j).lower ≤ℤ value_at run x s j
-  pub upper : (s j : ℕ) → s < scenarios run → j < run.nonleaf → value_at run x s j ≤ℤ (side_at (sides run.program) j).upper
+  pub lower : (s j : ℕ) → s < scenarios run → j < run.nonleaf
+      → (side_at (sides run.program) j).lower ≤ℤ value_at run x s j
+  pub upper : (s j : ℕ) → s < scenarios run → j < run.nonleaf
+      → value_at run x s j ≤ℤ (side_at (sides run.program) j).upper
 
 -- the number of the node that has scenario s at the stage of column j
 abbrev pub node_for : Run → ℕ → ℕ → ℕ

@@ -16,7 +16,9 @@ use Rattle.put_words.specs.NextMultipliers.{next_of, no_multipliers}
 -- the best points of problems 0 to n - 1, in order; none where one has no feasible point
 abbrev pub bests_below : ℕ → (ℕ → Problem) → Option (List (List ℤ))
 bests_below zero problems = Some []
-bests_below (suc n) problems = option_and_then (λ front. option_map (λ (best : Best). front ++ best.point ∷ []) (best_of (problems n))) (bests_below n problems)
+bests_below (suc n) problems = option_and_then
+  (λ front. option_map (λ (best : Best). front ++ best.point ∷ []) (best_of (problems n)))
+  (bests_below n problems)
 
 -- a put with the points of all scenarios that it was made from
 pub record Made : Type 0 where
@@ -30,14 +32,21 @@ early_values run points = flat_map (λ point. take run.nonleaf point) points
 -- put number k: multipliers that were moved by the values of some points
 abbrev pub made_from : Run → ℕ → Multipliers → List (List ℤ) → Made
 made_from run k multipliers points = record {
-  put = record { number = k; multipliers = next_of run multipliers (early_values run points); x = early_values run points };
+  put = record { number = k; multipliers = next_of run multipliers (early_values run points);
+      x = early_values run points };
   plan = record { points = points };
 }
 
--- put k. The first one is made from the best points of all scenarios and multipliers of 0, each later one from the best
--- points of the hedged problems of the put before and its multipliers; none where a scenario has no feasible point
+-- put k. The first one is made from the best points of all scenarios and multipliers of 0, each
+-- later one from the best
+-- points of the hedged problems of the put before and its multipliers; none where a scenario has no
+-- feasible point
 unfoldable pub put_of : Run → ℕ → Option Made
 put_of run zero = None
-put_of run (suc zero) = option_map (made_from run 1 (no_multipliers run)) (bests_below (scenarios run) (problem_in run))
+put_of run (suc zero) =
+  option_map (made_from run 1 (no_multipliers run)) (bests_below (scenarios run) (problem_in run))
 put_of run (suc (suc k)) =
-    option_and_then (λ (before : Made). option_map (made_from run (suc (suc k)) before.put.multipliers) (bests_below (scenarios run) (hedged_in run before.put.multipliers before.put.x))) (put_of run (suc k))
+    option_and_then (λ (before : Made). option_map
+        (made_from run (suc (suc k)) before.put.multipliers)
+        (bests_below (scenarios run) (hedged_in run before.put.multipliers before.put.x)))
+        (put_of run (suc k))

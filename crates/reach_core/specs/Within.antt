@@ -28,7 +28,8 @@ pub record NumbersWithin (program : Program) (n : ℕ) : Type 0 where
   pub constant : unsigned_abs program.constant ≤ n
   pub changes : All (λ (s : Scenario). All (λ c. change_size c ≤ n) s.changes) program.scenarios
 
--- what a program's reach is taken of: positive factors, and columns of the single box 0 without numbers
+-- what a program's reach is taken of: positive factors, and columns of the single box 0 without
+-- numbers
 pub record HasReach (program : Program) (options : Options) (total : ℤ) : Type 0 where
   pub scale : pos 1 ≤ℤ options.scale
   pub rho : pos 1 ≤ℤ options.rho

@@ -6,8 +6,10 @@ use Rattle.boxed_problem.specs.declared.parts.Entry.{Entry}
 use Rattle.boxed_problem.specs.declared.parts.Limits.{Limits}
 use Rattle.boxed_problem.specs.declared.parts.Side.{Side}
 
--- a cost, a square and a side for each column, a price for each row, and entries of rows and columns that are there
-pub record IsAscent (columns sides : List Side) (rows : List Limits) (entries : List Entry) (line square values : List ℤ) : Type 0 where
+-- a cost, a square and a side for each column, a price for each row, and entries of rows and
+-- columns that are there
+pub record IsAscent (columns sides : List Side) (rows : List Limits) (entries : List Entry)
+  (line square values : List ℤ) : Type 0 where
   pub ends : length columns ≡ length sides
   pub lines : length line ≡ length sides
   pub squares : length square ≡ length sides

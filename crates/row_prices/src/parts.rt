@@ -17,7 +17,8 @@ pub fn side_reach(side: Side) -> u128
 /// The magnitude of what a column adds, or none where that leaves 128 bits.
 pub fn part_size(line: i128, square: i128, side: Side) -> Option<u128>
     ensures { IfSome result
-        (λ r. r ≡ unsigned_abs line * reach side + unsigned_abs square * (reach side * reach side)) }
+        (λ r. r ≡ unsigned_abs line * reach side + unsigned_abs square
+            * (reach side * reach side)) }
 {
     let far = side_reach(side);
     let linear = line.unsigned_abs().checked_mul(far)?;

@@ -11,7 +11,8 @@ is_digit b = nat_le 48 b && nat_le b 57
 abbrev pub max_digits : ℕ
 max_digits = 19
 
--- the number that one to nineteen digits write, leading zeros allowed; none where the text is anything else
+-- the number that one to nineteen digits write, leading zeros allowed; none where the text is
+-- anything else
 abbrev pub numeral_of : List ℕ → Option ℕ
 numeral_of text =
     if nat_le 1 (length text) && nat_le (length text) max_digits

@@ -6,7 +6,8 @@ use Rattle.run_words.specs.Numerals.{number_in}
 use Rattle.run_words.specs.declared.given.Given.{Given}
 use Rattle.run_words.specs.declared.given.Given.TheVariants.{Never, Once, Again}
 
--- an option: its name, the least and the greatest number for it, and the number that it has where it isn't given
+-- an option: its name, the least and the greatest number for it, and the number that it has where
+-- it isn't given
 pub record Setting : Type 0 where
   pub name : List ℕ
   pub least : ℕ
@@ -53,7 +54,8 @@ is_option word = list_any (λ (setting : Setting). bytes_eq word setting.name) s
 
 -- whether each pair begins with the name of an option
 abbrev pub are_options : List (List ℕ) → Bool
-are_options words = list_all (λ k. is_option (name_of words k)) (range_with_len 0 (pair_count words))
+are_options words =
+  list_all (λ k. is_option (name_of words k)) (range_with_len 0 (pair_count words))
 
 -- the pairs among the first n that begin with this name
 abbrev pub pairs_before : List ℕ → List (List ℕ) → ℕ → List ℕ
@@ -65,15 +67,18 @@ given_by [] = Never
 given_by (k ∷ []) = Once k
 given_by (k ∷ other ∷ more) = Again
 
--- an option's number: the default where it isn't given, the number of its value where it is given once
+-- an option's number: the default where it isn't given, the number of its value where it is given
+-- once
 abbrev pub number_by : Setting → List (List ℕ) → Given → Option ℕ
 number_by setting words Never = Some setting.default
 number_by setting words (Once k) = number_in setting.least setting.greatest (option_value words k)
 number_by setting words Again = None
 
--- the number that the words set for an option; none where it is given twice, or by anything but a number in its range
+-- the number that the words set for an option; none where it is given twice, or by anything but a
+-- number in its range
 abbrev pub number_for : Setting → List (List ℕ) → Option ℕ
-number_for setting words = number_by setting words (given_by (pairs_before setting.name words (pair_count words)))
+number_for setting words =
+  number_by setting words (given_by (pairs_before setting.name words (pair_count words)))
 
 -- one pair more of the name
 abbrev pub with_one : Given → ℕ → Given

@@ -8,7 +8,8 @@ use crate::numeral::number_in;
 // The number of the value of a pair that is there, in this range.
 fn value_in(words: &[String], pair: usize, least: u64, greatest: u64) -> Option<u64>
     requires { pair < pair_count (map string_bytes words.now) }
-    ensures value { result ≡ number_in least greatest (option_value (map string_bytes words.now) pair) }
+    ensures value { result ≡ number_in least greatest
+        (option_value (map string_bytes words.now) pair) }
     ensures range { IfSome result (λ k. (least ≤ k) × (k ≤ greatest)) }
 {
     number_in(least, greatest, word(words, 5 + 2 * pair).as_bytes())

@@ -1,4 +1,5 @@
--- the least that a column adds to an objective over the whole numbers of a side, and the places where it does
+-- the least that a column adds to an objective over the whole numbers of a side, and the places
+-- where it does
 
 use Rattle.std.specs.Prelude.{◌≡◌, ℕ, List, length, map, ℤ, ◌+ℤ◌, ◌-ℤ◌, ◌*ℤ◌, ◌≤ℤ◌, ◌<ℤ◌}
 use Rattle.std.specs.Int.{int_min}
@@ -12,7 +13,8 @@ use Rattle.boxed_problem.specs.Data.{Problem}
 
 -- the least that a column adds to the objective over all whole numbers of a side
 abbrev pub least_on : ℤ → ℤ → Side → ℤ
-least_on line square s = fold int_min (curve line square s.lower) (map (curve line square) (side_values s))
+least_on line square s =
+  fold int_min (curve line square s.lower) (map (curve line square) (side_values s))
 
 -- a place of a side at which a column adds least
 pub record IsLeastAt (line square : ℤ) (s : Side) (place : ℤ) : Type 0 where
@@ -20,7 +22,8 @@ pub record IsLeastAt (line square : ℤ) (s : Side) (place : ℤ) : Type 0 where
   pub upper : place ≤ℤ s.upper
   pub least : (x : ℤ) → s.lower ≤ℤ x → x ≤ℤ s.upper → curve line square place ≤ℤ curve line square x
 
--- the last place to which a column with a square falls: 2 square place is at most square - line, and less than 2 square below it
+-- the last place to which a column with a square falls: 2 square place is at most square - line,
+-- and less than 2 square below it
 pub record IsVertex (line square place : ℤ) : Type 0 where
   pub low : ((square *ℤ place) +ℤ (square *ℤ place)) ≤ℤ (square -ℤ line)
   pub high : (square -ℤ line) <ℤ (((square *ℤ place) +ℤ (square *ℤ place)) +ℤ (square +ℤ square))

@@ -28,7 +28,9 @@ reduced_total r box = r.constant +ℤ sum_below (length r.columns) (least_part r
 abbrev pub reduced_value : Reduced → List ℤ → ℤ
 reduced_value r x = r.constant +ℤ sum_below (length r.columns) (value_part r.line r.square x)
 
--- at each point of the problem's box that meets its rows, the reduced objective is at most the scale times the problem's
+-- at each point of the problem's box that meets its rows, the reduced objective is at most the
+-- scale times the problem's
 pub record IsUnder (b : Problem) (r : Reduced) : Type 0 where
   pub columns : r.columns ≡ b.columns
-  pub below : (x : List ℤ) → InBox b.columns x → meets_all b x ≡ true → reduced_value r x ≤ℤ (r.scale *ℤ value_of b x)
+  pub below : (x : List ℤ) → InBox b.columns x → meets_all b x ≡ true
+      → reduced_value r x ≤ℤ (r.scale *ℤ value_of b x)

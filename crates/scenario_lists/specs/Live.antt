@@ -1,4 +1,5 @@
--- The scenarios of a stoch file without the entries of columns that leave the run, and what listing them answers.
+-- The scenarios of a stoch file without the entries of columns that leave the run, and what listing
+-- them answers.
 use Rattle.std.specs.Prelude.{ℕ, Bool, true, false, List, ◌∷◌, [], ◌++◌, length, map, slice_index_or, unsigned_abs}
 use Rattle.std.specs.List.{filter, fold, range_with_len, sum_by}
 use Rattle.stoch_lines.specs.declared.places.StochEntry.{StochEntry}
@@ -15,7 +16,8 @@ use Rattle.scenario_lists.specs.declared.data.ScenarioData.{ScenarioData}
 use Rattle.scenario_lists.specs.declared.fault.ListFault.{ListFault}
 use Rattle.scenario_lists.specs.declared.fault.ListFault.TheVariants.{Memory, TooManyEntries}
 
--- whether a place stays, where it is said of each column whether it does: that of a column with it, and each right-hand side
+-- whether a place stays, where it is said of each column whether it does: that of a column with it,
+-- and each right-hand side
 abbrev pub stays_in : List Bool → StochPlace → Bool
 stays_in live (Cost column) = slice_index_or live column false
 stays_in live (Cell row column) = slice_index_or live column false
@@ -34,11 +36,13 @@ live_scenarios live stoch = map (live_scenario live) (scenarios_of stoch)
 
 -- the scenarios of all combinations so
 abbrev pub live_products : List Bool → List Element → List ScenarioData
-live_products live elements = map (λ s. live_scenario live (product_scenario_at elements s)) (range_with_len 0 (combinations elements))
+live_products live elements = map (λ s. live_scenario live (product_scenario_at elements s))
+  (range_with_len 0 (combinations elements))
 
 -- a listed scenario beside some that have only entries that stay
 abbrev pub live_beside : List Bool → List ScenarioData → Branch → ScenarioData
-live_beside live made branch = record { weight = capped (unsigned_abs branch.weight); entries = first_of_each (live_entries live branch.entries ++ inherited made branch.parent) }
+live_beside live made branch = record { weight = capped (unsigned_abs branch.weight);
+  entries = first_of_each (live_entries live branch.entries ++ inherited made branch.parent) }
 
 abbrev pub with_live : List Bool → List ScenarioData → Branch → List ScenarioData
 with_live live made branch = made ++ live_beside live made branch ∷ []

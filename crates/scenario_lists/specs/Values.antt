@@ -1,4 +1,5 @@
--- What the values and weights of scenarios come from: parents, choices and the weights of realisations.
+-- What the values and weights of scenarios come from: parents, choices and the weights of
+-- realisations.
 use Rattle.std.specs.Prelude.{◌≡◌, ℕ, ◌*◌, List, [], ◌∷◌, Option, Some, None, slice_index_or, unsigned_abs}
 use Rattle.std.specs.List.{sum_by}
 use Rattle.dec_core.specs.declared.decimal.Decimal.{Decimal}
@@ -12,16 +13,19 @@ use Rattle.scenario_lists.specs.ScenarioList.{branch_scenarios, no_scenario}
 
 -- the value of a place in scenario k of a file that lists them
 abbrev pub listed_value : List Branch → StochPlace → ℕ → Option Decimal
-listed_value branches place k = value_at_place place (slice_index_or (branch_scenarios branches) k no_scenario).entries
+listed_value branches place k =
+  value_at_place place (slice_index_or (branch_scenarios branches) k no_scenario).entries
 
 -- the value of a place that a scenario takes over: its parent's; the core gives none
 abbrev pub parent_value : List Branch → StochPlace → Option ℕ → Option Decimal
 parent_value branches place None = None
 parent_value branches place (Some parent) = listed_value branches place parent
 
--- the value that element k gives to a place under some choices: that of the chosen realisation, or else of the first one
+-- the value that element k gives to a place under some choices: that of the chosen realisation, or
+-- else of the first one
 abbrev pub chosen_value : List Element → List ℕ → StochPlace → ℕ → Option Decimal
-chosen_value elements choices place k = value_in (slice_index_or elements k no_element) (chosen_at elements choices k) place
+chosen_value elements choices place k =
+  value_in (slice_index_or elements k no_element) (chosen_at elements choices k) place
 
 -- the size of a realisation's weight, and the sum of an element's
 abbrev pub size_of : Realisation → ℕ

@@ -10,7 +10,8 @@ use Rattle.core_lines.specs.declared.kinds.CoreFault.{CoreFault}
 use Rattle.core_lines.specs.declared.kinds.CoreKind.{CoreKind}
 use Rattle.smps_core.specs.CoreData.{IsCoreOf}
 
--- the data are what the lines up to ENDATA say, or the fault is the first one, or memory is refused where it is asked for
+-- the data are what the lines up to ENDATA say, or the fault is the first one, or memory is refused
+-- where it is asked for
 abbrev pub Reads : Type 0 → Result Core CoreFault → Result Before (ℕ × CoreKind) → Type 0
 Reads asked (Ok core) read = (said : Before) × (read ≡ Ok said) × IsCoreOf said core
 Reads asked (Err fault) read = Fails asked fault read

@@ -7,7 +7,8 @@ use Rattle.smps_words.specs.declared.core_data.CoreColumn.{CoreColumn}
 use Rattle.smps_words.specs.declared.core_data.RowKind.{RowKind}
 use Rattle.smps_words.specs.declared.core_data.RowKind.TheVariants.{Less}
 
--- the constraint row of number i by the kinds, and by the right sides and ranges with the objective's first
+-- the constraint row of number i by the kinds, and by the right sides and ranges with the
+-- objective's first
 abbrev pub row_with : List RowKind → List (Option Decimal) → List (Option Decimal) → ℕ → CoreRow
 row_with kinds rights ranges i = record {
   kind = slice_index_or kinds i Less;
@@ -16,7 +17,8 @@ row_with kinds rights ranges i = record {
 }
 
 -- the column of number j by the ends, the flags and the costs
-abbrev pub column_with : List (Option ℤ) → List (Option ℤ) → List Bool → List (Option Decimal) → ℕ → CoreColumn
+abbrev pub column_with : List (Option ℤ) → List (Option ℤ) → List Bool → List (Option Decimal) → ℕ
+  → CoreColumn
 column_with lowers uppers flags costs j = record {
   lower = slice_index_or lowers j None;
   upper = slice_index_or uppers j None;

@@ -33,20 +33,24 @@ IsUsed realisations k =
     (i : ℕ) × (i < length realisations) × ((slice_index_or realisations i no_choice).element ≡ k)
 
 -- the elements: each has a later period and a realisation
-pub record AreElements (periods : Periods) (realisations : List Chosen) (starts : List ℕ) (sources : List Source) : Type 0 where
+pub record AreElements (periods : Periods) (realisations : List Chosen) (starts : List ℕ)
+  (sources : List Source) : Type 0 where
   pub probable : All (λ chosen. IsProbable chosen.probability) realisations
   pub later : All (IsLaterPeriod periods) starts
   pub used : (k : ℕ) → k < length starts → IsUsed realisations k
   pub matched : length starts ≡ length sources
 
 -- the scenarios: each has its parent before it
-pub record AreHeads (periods : Periods) (scenarios : List ScenarioHead) (names : List (List ℕ)) : Type 0 where
+pub record AreHeads (periods : Periods) (scenarios : List ScenarioHead)
+  (names : List (List ℕ)) : Type 0 where
   pub heads : All (IsHead periods) scenarios
-  pub parents : (k : ℕ) → k < length scenarios → IsEarlier (slice_index_or scenarios k no_scenario).parent k
+  pub parents : (k : ℕ) → k < length scenarios
+      → IsEarlier (slice_index_or scenarios k no_scenario).parent k
   pub named : length names ≡ length scenarios
   pub few : length scenarios ≤ max_scenarios
 
--- of two entries of one place the later one is of the same element, and of a later realisation or scenario
+-- of two entries of one place the later one is of the same element, and of a later realisation or
+-- scenario
 abbrev pub Follows : Owned → Owned → Type 0
 Follows owned later =
     same_place owned.entry.place later.entry.place ≡ true
@@ -56,8 +60,10 @@ Follows owned later =
 abbrev pub chosen_element : List Chosen → ℕ → ℕ
 chosen_element realisations k = (slice_index_or realisations k no_choice).element
 
--- the entries: each is of a realisation or a scenario that is there, and of that realisation's element
-pub record AreOwned (core : Core) (realisations : List Chosen) (scenarios : List ScenarioHead) (entries : List Owned) : Type 0 where
+-- the entries: each is of a realisation or a scenario that is there, and of that realisation's
+-- element
+pub record AreOwned (core : Core) (realisations : List Chosen) (scenarios : List ScenarioHead)
+  (entries : List Owned) : Type 0 where
   pub each : All (λ owned. IsEntry core owned.entry) entries
   pub apart : AllPairs Follows entries
   pub there : All (λ owned. owned.choice < length realisations + length scenarios) entries

@@ -15,7 +15,8 @@ use Rattle.smps_stoch.specs.declared.stoch.Stoch.TheVariants.{Product, Scenarios
 use Rattle.smps_stoch.specs.declared.stoch.Element.{Element}
 use Rattle.smps_stoch.specs.declared.stoch.Branch.{Branch}
 
--- the power of ten that is the greatest weight: the greatest probability times the greatest common power
+-- the power of ten that is the greatest weight: the greatest probability times the greatest common
+-- power
 abbrev pub max_weight : ℕ
 max_weight = max_probability + max_places
 
@@ -68,7 +69,9 @@ pub record ElementFacts (core : Core) (periods : Periods) (element : Element) : 
 
 -- no place is in two elements
 abbrev pub AreApart : Element → Element → Type 0
-AreApart element other = All (λ one. All (λ second. ShareNoPlace one.entries second.entries) other.realisations) element.realisations
+AreApart element other = All
+  (λ one. All (λ second. ShareNoPlace one.entries second.entries)
+  other.realisations) element.realisations
 
 pub record ProductFacts (core : Core) (periods : Periods) (elements : List Element) : Type 0 where
   pub each : All (ElementFacts core periods) elements
@@ -84,7 +87,8 @@ pub record BranchFacts (core : Core) (periods : Periods) (branches : List Branch
   pub few : length branches ≤ max_scenarios
   pub period : All (λ branch. IsPeriod periods branch.period) branches
   pub weights : All (λ branch. IsWeight branch.weight) branches
-  pub parents : (k : ℕ) → k < length branches → IsEarlier (slice_index_or branches k no_branch).parent k
+  pub parents : (k : ℕ) → k < length branches
+      → IsEarlier (slice_index_or branches k no_branch).parent k
   pub entries : All (λ branch. EntryFacts core branch.entries) branches
 
 abbrev pub StochFacts : Core → Periods → Stoch → Type 0

@@ -19,7 +19,8 @@ fn empty_branches(
     requires places { places ≡ scenario_places scenarios.now }
     requires probable { All (λ scenario. IsProbable scenario.probability) scenarios.now }
     ensures { IfOk result
-        (λ branches. branches.items ≡ branches_with places scenarios.now [] (length scenarios.now)) }
+        (λ branches. branches.items
+            ≡ branches_with places scenarios.now [] (length scenarios.now)) }
 {
     let mut branches = Vec::new(alloc);
     for scenario in scenarios {

@@ -42,7 +42,8 @@ fn places_by_element(alloc: Global, count: usize, drafts: &[Draft]) -> Result<Ve
 // The elements without their realisations.
 fn empty_elements(alloc: Global, places: &[u8], periods: &[u8]) -> Result<Vec<Element>, AllocError>
     ensures { IfOk result
-        (λ elements. elements.items ≡ elements_so_far periods.now places.now [] (length periods.now)) }
+        (λ elements. elements.items
+            ≡ elements_so_far periods.now places.now [] (length periods.now)) }
 {
     let mut elements = Vec::new(alloc);
     for period in periods {

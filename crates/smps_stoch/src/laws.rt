@@ -41,7 +41,9 @@ pub fn last_entries_tell_all()
 /// entry, or else that of the element's first realisation.
 pub fn values_are_own_or_first()
     ensures own { (core : Core) (entries : List StochEntry) (entry : StochEntry) →
-        EntryFacts core entries → Contains entries entry → value_at_place entry.place entries ≡ Some entry.value }
+        EntryFacts core entries → Contains entries entry
+            → value_at_place entry.place entries ≡ Some entry.value }
     ensures first { (element : Element) (realisation : Realisation) (place : StochPlace) →
-        value_at_place place realisation.entries ≡ None → value_in element realisation place ≡ value_at_place place (first_entries element) }
+        value_at_place place realisation.entries ≡ None
+            → value_in element realisation place ≡ value_at_place place (first_entries element) }
 {}

@@ -105,7 +105,8 @@ impl Reading {
 
     // The first column and the place of the first row of the period that a line names.
     fn period_of(&self, core: &Core, line: &FileLine) -> Result<(u32, u32), TimeKind>
-        ensures passes { Passes (period_fault (names_of core.now) (before_in self.now) (text_of line.now))
+        ensures passes { Passes (period_fault (names_of core.now) (before_in self.now)
+            (text_of line.now))
             result (IsPeriodOf (names_of core.now) (text_of line.now)) }
         ensures begins { IfOk result (MayBegin (before_in self.now)) }
     {

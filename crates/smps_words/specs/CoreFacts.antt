@@ -49,7 +49,8 @@ abbrev pub ComesBefore : CoreEntry → CoreEntry → Type 0
 ComesBefore e f = (e.column ≤ f.column) × (e.column ≡ f.column → e.row < f.row)
 
 -- the facts of a core
-pub record CoreFacts (rows : List CoreRow) (columns : List CoreColumn) (entries : List CoreEntry) (constant : Decimal) (row_names column_names : List (List ℕ)) : Type 0 where
+pub record CoreFacts (rows : List CoreRow) (columns : List CoreColumn) (entries : List CoreEntry)
+  (constant : Decimal) (row_names column_names : List (List ℕ)) : Type 0 where
   -- there are few rows and columns, and each has a name
   pub few_rows : length rows ≤ max_rows
   pub few_columns : length columns ≤ max_columns
@@ -57,7 +58,8 @@ pub record CoreFacts (rows : List CoreRow) (columns : List CoreColumn) (entries 
   pub named_columns : length column_names ≡ length columns
   -- each entry is that of a row and a column that are there, and each pair of them has at most one
   pub places : All (λ e. (e.row < length rows) × (e.column < length columns)) entries
-  pub ascending : (k : ℕ) → k + 1 < length entries → ComesBefore (entry_at entries k) (entry_at entries (k + 1))
+  pub ascending : (k : ℕ) → k + 1 < length entries
+      → ComesBefore (entry_at entries k) (entry_at entries (k + 1))
   -- each number is short
   pub rights : All (λ r. IsShort r.right) rows
   pub ranges : All (λ r. IsShort (unwrap_or r.range zero_decimal)) rows

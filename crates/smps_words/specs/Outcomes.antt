@@ -8,21 +8,26 @@ pub data Outcome (L K B : Type 0) : Type 0 where
   Ended : B → Outcome L K B
   Endless : Outcome L K B
 
--- a line with a fault stops the file, one that ends it without a fault too, and after any other line what comes later decides
+-- a line with a fault stops the file, one that ends it without a fault too, and after any other
+-- line what comes later decides
 abbrev pub judged : {L K B : Type 0} → Option K → Bool → L → B → Outcome L K B → Outcome L K B
 judged (Some kind) ends line after later = Faulty line kind
 judged None true line after later = Ended after
 judged None false line after later = later
 
 -- line by line, each judged by the lines before it
-abbrev pub outcome : {L K : Type 0} → (List L → L → Option K) → (L → Bool) → List L → List L → Outcome L K (List L)
+abbrev pub outcome : {L K : Type 0} → (List L → L → Option K) → (L → Bool) → List L → List L
+  → Outcome L K (List L)
 outcome fault ends before [] = Endless
-outcome fault ends before (line ∷ rest) = judged (fault before line) (ends line) line (before ++ line ∷ []) (outcome fault ends (before ++ line ∷ []) rest)
+outcome fault ends before (line ∷ rest) = judged (fault before line) (ends line) line
+  (before ++ line ∷ []) (outcome fault ends (before ++ line ∷ []) rest)
 
 -- the same where each line is judged by a state that the lines before it have made
-abbrev pub folded : {L K B : Type 0} → (B → L → Option K) → (L → Bool) → (B → L → B) → B → List L → Outcome L K B
+abbrev pub folded : {L K B : Type 0} → (B → L → Option K) → (L → Bool) → (B → L → B) → B → List L
+  → Outcome L K B
 folded fault ends next state [] = Endless
-folded fault ends next state (line ∷ rest) = judged (fault state line) (ends line) line (next state line) (folded fault ends next (next state line) rest)
+folded fault ends next state (line ∷ rest) = judged (fault state line) (ends line) line
+  (next state line) (folded fault ends next (next state line) rest)
 
 -- what the lines up to the end say, in place of the lines
 abbrev pub seen_by : {L K B C : Type 0} → (B → C) → Outcome L K B → Outcome L K C
@@ -30,7 +35,8 @@ seen_by of (Faulty line kind) = Faulty line kind
 seen_by of (Ended before) = Ended (of before)
 seen_by of Endless = Endless
 
--- the data of a file, or the number and the kind of its first fault; a file without an end has that fault at its last line
+-- the data of a file, or the number and the kind of its first fault; a file without an end has that
+-- fault at its last line
 abbrev pub answer_of : {K B D : Type 0} → (B → D) → ℕ → K → Outcome TextLine K B → Result D (ℕ × K)
 answer_of data_of last no_end (Faulty line kind) = Err (line.number, kind)
 answer_of data_of last no_end (Ended before) = Ok (data_of before)

@@ -20,9 +20,12 @@ pub record PeriodFacts (names : List (List ℕ)) (columns rows : List ℕ) : Typ
   -- the first period begins with the first column and row, and the others later and later
   pub first_column : slice_index columns 0 ≡ 0
   pub first_row : slice_index rows 0 ≡ 0
-  pub columns_rise : (k : ℕ) → k + 1 < length columns → slice_index columns k < slice_index columns (k + 1)
-  -- the second period may begin with the first constraint row too, where the first one named the objective
-  pub rows_rise : (k : ℕ) → 1 ≤ k → k + 1 < length rows → slice_index rows k < slice_index rows (k + 1)
+  pub columns_rise : (k : ℕ) → k + 1 < length columns
+      → slice_index columns k < slice_index columns (k + 1)
+  -- the second period may begin with the first constraint row too, where the first one named the
+  -- objective
+  pub rows_rise : (k : ℕ) → 1 ≤ k → k + 1 < length rows
+      → slice_index rows k < slice_index rows (k + 1)
   -- the numbers are those of a core
   pub small_columns : All (λ c. c < max_columns) columns
   pub small_rows : All (λ r. r < max_rows) rows

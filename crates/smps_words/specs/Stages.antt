@@ -8,6 +8,7 @@ pub record IsStageOf (firsts : List ℕ) (number stage : ℕ) : Type 0 where
   pub begun : slice_index firsts (stage - 1) ≤ number
   pub later : (k : ℕ) → stage ≤ k → k < length firsts → number < slice_index firsts k
 
--- the same as a number, given the first of each period: how many periods begin no later, since they begin in order
+-- the same as a number, given the first of each period: how many periods begin no later, since they
+-- begin in order
 abbrev pub stage_in : List ℕ → ℕ → ℕ
 stage_in firsts number = count_by (λ first. nat_le first number) firsts

@@ -5,7 +5,8 @@ use Rattle.line_core.specs.Fields.{span_text}
 use Rattle.line_core.specs.declared.line_list.Line.{Line}
 use Rattle.smps_words.specs.declared.file_line.FileLine.{FileLine}
 
--- a line: its number in the file from 1, whether it begins with a byte that isn't a blank, and the texts of its fields
+-- a line: its number in the file from 1, whether it begins with a byte that isn't a blank, and the
+-- texts of its fields
 pub record TextLine : Type 0 where
   pub number : ℕ
   pub header : Bool
@@ -13,7 +14,8 @@ pub record TextLine : Type 0 where
 
 -- a line of the file with these bytes
 abbrev pub text_line : List ℕ → Line → TextLine
-text_line bytes line = record { number = line.number; header = line.header; fields = map (span_text bytes) line.fields }
+text_line bytes line = record { number = line.number; header = line.header;
+  fields = map (span_text bytes) line.fields }
 
 abbrev pub text_of : FileLine → TextLine
 text_of line = text_line line.bytes.now line.line.now

@@ -9,7 +9,8 @@ use Rattle.sp_model.specs.declared.program.Change.TheVariants as change
 
 -- the data of a draft
 abbrev pub data_in : Draft → Data
-data_in draft = record { costs = draft.costs.items; limits = draft.limits.items; entries = draft.entries.items }
+data_in draft = record { costs = draft.costs.items; limits = draft.limits.items;
+  entries = draft.entries.items }
 
 -- whether a cost that a change gives is of one of the columns
 abbrev pub has_column : ℕ → Change → Bool
@@ -33,4 +34,5 @@ with_cost costs (change.Limits row lower upper) = costs
 abbrev pub with_limits : List Limits → Change → List Limits
 with_limits limits (change.Cost column value) = limits
 with_limits limits (change.Cell row column value) = limits
-with_limits limits (change.Limits row lower upper) = slice_set limits row (record { lower = lower; upper = upper })
+with_limits limits (change.Limits row lower upper) =
+  slice_set limits row (record { lower = lower; upper = upper })

@@ -27,7 +27,8 @@ data_at run s = data_of run.program (scenario_at run s)
 abbrev pub factor_of : Run → ℕ → ℤ
 factor_of run s = run.options.scale *ℤ (scenario_at run s).weight
 
--- the problem of scenario s: the boxes of the program, the scenario's limits and entries, and its costs times scale and weight
+-- the problem of scenario s: the boxes of the program, the scenario's limits and entries, and its
+-- costs times scale and weight
 abbrev pub problem_in : Run → ℕ → Problem
 problem_in run s = record {
   columns = sides run.program;
@@ -45,8 +46,10 @@ least_of problem = option_map (λ (best : Best). best.value) (best_of problem)
 -- the sum of f at 0 to n - 1; none where f is none at one of them
 abbrev pub sum_some : ℕ → (ℕ → Option ℤ) → Option ℤ
 sum_some zero f = Some (pos 0)
-sum_some (suc n) f = option_and_then (λ sum. option_map (λ least. sum +ℤ least) (f n)) (sum_some n f)
+sum_some (suc n) f =
+  option_and_then (λ sum. option_map (λ least. sum +ℤ least) (f n)) (sum_some n f)
 
--- the wait-and-see bound: the sum of the least values of all scenarios, each solved by itself; none where one has no feasible point
+-- the wait-and-see bound: the sum of the least values of all scenarios, each solved by itself; none
+-- where one has no feasible point
 unfoldable pub wait_and_see_of : Run → Option ℤ
 wait_and_see_of run = sum_some (scenarios run) (λ s. least_of (problem_in run s))

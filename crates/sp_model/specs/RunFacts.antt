@@ -1,4 +1,5 @@
--- What the type of a run keeps, as facts over its program, options, total weight and number of nonleaf columns.
+-- What the type of a run keeps, as facts over its program, options, total weight and number of
+-- nonleaf columns.
 
 use Rattle.std.specs.Prelude.{◌≡◌, ℕ, ◌+◌, ◌*◌, ◌^◌, ◌<◌, ◌≤◌, ◌==◌, nat_lt, Bool, true, false, ◌&&◌, length, ℤ, pos, neg_ℤ, ◌≤ℤ◌, int_le, Option, Some, None, slice_index_or}
 use Rattle.std.specs.List.{All, AllPairs, count_by, list_any, range_with_len, sum_by}
@@ -71,7 +72,8 @@ is_same_place (change.Cost column value) (change.Cost column2 value2) = column =
 is_same_place (change.Cost column value) (change.Cell row2 column2 value2) = false
 is_same_place (change.Cost column value) (change.Limits row2 lower2 upper2) = false
 is_same_place (change.Cell row column value) (change.Cost column2 value2) = false
-is_same_place (change.Cell row column value) (change.Cell row2 column2 value2) = (row == row2) && (column == column2)
+is_same_place (change.Cell row column value) (change.Cell row2 column2 value2) =
+  (row == row2) && (column == column2)
 is_same_place (change.Cell row column value) (change.Limits row2 lower2 upper2) = false
 is_same_place (change.Limits row lower upper) (change.Cost column2 value2) = false
 is_same_place (change.Limits row lower upper) (change.Cell row2 column2 value2) = false
@@ -92,22 +94,29 @@ change_reach program (change.Limits row lower upper) = 1
 -- a weight of at least 1, and changes of different places that are there
 pub record IsScenario (program : Program) (scenario : Scenario) : Type 0 where
   pub positive : pos 1 ≤ℤ scenario.weight
-  pub changes : All (λ c. is_change (length program.rows) (length program.columns) c ≡ true) scenario.changes
+  pub changes : All (λ c. is_change (length program.rows) (length program.columns) c
+      ≡ true) scenario.changes
   pub apart : AllPairs (λ c d. is_same_place c d ≡ false) scenario.changes
 
--- a column whose box is the single 0 has the cost 0 and the entries 0, in the core and in all scenarios
+-- a column whose box is the single 0 has the cost 0 and the entries 0, in the core and in all
+-- scenarios
 pub record IdleFacts (program : Program) : Type 0 where
-  pub costs : (j : ℕ) (d : Column) → j < length program.columns → box_reach program j ≡ 0 → (slice_index_or program.columns j d).cost ≡ pos 0
-  pub entries : All (λ (e : Entry). box_reach program e.column ≡ 0 → e.value ≡ pos 0) program.entries
-  pub changes : All (λ (s : Scenario). All (λ c. change_reach program c ≡ 0 → change_value c ≡ pos 0) s.changes) program.scenarios
+  pub costs : (j : ℕ) (d : Column) → j < length program.columns → box_reach program j ≡ 0
+      → (slice_index_or program.columns j d).cost ≡ pos 0
+  pub entries : All (λ (e : Entry). box_reach program e.column ≡ 0
+      → e.value ≡ pos 0) program.entries
+  pub changes : All (λ (s : Scenario). All
+      (λ c. change_reach program c ≡ 0 → change_value c ≡ pos 0) s.changes) program.scenarios
 
--- the nodes and their scenarios in order, at each stage each scenario once; a node of the last stage has one scenario, and one of a later stage lies in one of the stage before
+-- the nodes and their scenarios in order, at each stage each scenario once; a node of the last
+-- stage has one scenario, and one of a later stage lies in one of the stage before
 pub record TreeFacts (tree : Tree) (count : ℕ) : Type 0 where
   pub once : (t s : ℕ) → 1 ≤ t → t ≤ tree.stages → s < count → StandsOnce tree.nodes t s
   pub nodes : All (IsNode tree.stages count) tree.nodes
   pub ordered : AllPairs Precedes tree.nodes
   pub leaves : All (λ (n : Node). n.stage ≡ tree.stages → length n.scenarios ≡ 1) tree.nodes
-  pub nested : (t s u : ℕ) → 1 ≤ t → t < tree.stages → s < count → u < count → SameNode tree.nodes (t + 1) s u → SameNode tree.nodes t s u
+  pub nested : (t s u : ℕ) → 1 ≤ t → t < tree.stages → s < count → u < count
+      → SameNode tree.nodes (t + 1) s u → SameNode tree.nodes t s u
   pub few : length tree.nodes < 2 ^ 32
 
 -- the columns before the leaf stage are the first ones, and there is one of the first stage
@@ -119,7 +128,8 @@ pub record StageFacts (program : Program) (nonleaf : ℕ) : Type 0 where
   pub rising : AllPairs (λ (a b : Column). a.stage ≤ b.stage) program.columns
   pub some_columns : 0 < length program.columns
   pub first : (d : Column) → (slice_index_or program.columns 0 d).stage ≡ 1
-  pub nonleaf_is : nonleaf ≡ count_by (λ (c : Column). nat_lt c.stage program.tree.stages) program.columns
+  pub nonleaf_is : nonleaf ≡ count_by
+      (λ (c : Column). nat_lt c.stage program.tree.stages) program.columns
 
 -- the counts are within their limits
 pub record CountFacts (program : Program) (nonleaf : ℕ) : Type 0 where
@@ -139,10 +149,13 @@ pub record RunFacts (program : Program) (options : Options) (total : ℤ) (nonle
   pub tree : TreeFacts program.tree (length program.scenarios)
   pub stages : StageFacts program nonleaf
   pub counts : CountFacts program nonleaf
-  pub places : All (λ (e : Entry). (e.row < length program.rows) × (e.column < length program.columns)) program.entries
-  pub ascending : (k : ℕ) → k + 1 < length program.entries → ComesBefore (entry_at program.entries k) (entry_at program.entries (k + 1))
+  pub places : All (λ (e : Entry). (e.row < length program.rows)
+      × (e.column < length program.columns)) program.entries
+  pub ascending : (k : ℕ) → k + 1 < length program.entries
+      → ComesBefore (entry_at program.entries k) (entry_at program.entries (k + 1))
   pub scenarios : All (IsScenario program) program.scenarios
   pub idle : IdleFacts program
-  pub scaled : list_any (λ p. int_eq program.cost_scale (pos (10 ^ p))) (range_with_len 0 (MAX_PLACES + 1)) ≡ true
+  pub scaled : list_any (λ p. int_eq program.cost_scale (pos (10 ^ p)))
+      (range_with_len 0 (MAX_PLACES + 1)) ≡ true
   pub sum_is : total ≡ sum_z (λ (s : Scenario). s.weight) program.scenarios
   pub within : run_reach program options total nonleaf ≤ 2 ^ 120

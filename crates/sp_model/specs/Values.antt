@@ -1,4 +1,5 @@
--- What some data have at a place: the cost of a column, the entry of a row and a column, the limits of a row.
+-- What some data have at a place: the cost of a column, the entry of a row and a column, the limits
+-- of a row.
 
 use Rattle.std.specs.Prelude.{◌≡◌, ℕ, ◌==◌, ◌&&◌, Bool, true, false, find, ℤ, pos, Option, option_map, unwrap_or, slice_index_or}
 use Rattle.std.specs.List.{All}
@@ -23,7 +24,8 @@ is_cell i j e = (e.column == j) && (e.row == i)
 
 -- the entry of row i and column j, 0 where there is none
 abbrev pub cell_in : Data → ℕ → ℕ → ℤ
-cell_in d i j = unwrap_or (option_map (λ (e : Entry). e.value) (find (is_cell i j) d.entries)) (pos 0)
+cell_in d i j =
+  unwrap_or (option_map (λ (e : Entry). e.value) (find (is_cell i j) d.entries)) (pos 0)
 
 -- the limits of row i
 abbrev pub limits_in : Data → ℕ → Limits

@@ -11,7 +11,9 @@ ghost use Rattle.sp_model.specs.declared.program.Scenario.{Scenario};
 /// the change gives, and at every other place what the core has.
 pub fn scenario_values()
     ensures given { (program : Program) (scenario : Scenario) → IsScenario program scenario →
-        (k : ℕ) (d : Change) → k < length scenario.changes → Has (data_of program scenario) (slice_index_or scenario.changes k d) }
-    ensures kept { (program : Program) (scenario : Scenario) (place : Change) → IsUntouched scenario place →
+        (k : ℕ) (d : Change) → k < length scenario.changes
+            → Has (data_of program scenario) (slice_index_or scenario.changes k d) }
+    ensures kept { (program : Program) (scenario : Scenario) (place : Change)
+        → IsUntouched scenario place →
         SameAt (data_of program scenario) (core_data program) place }
 {}

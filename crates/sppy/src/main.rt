@@ -97,7 +97,8 @@ fn run_command<S: Shelf, K: Sink>(
 // written whole, or a put failed and was counted, or memory was refused.
 fn finish<K: Sink>(alloc: Global, status: &Status, err: &mut K) -> (ExitCode, Result<(), EdgeFault>)
     ensures code { exit_status result.0 ≡ code_of status.now }
-    ensures line { PutLeaves (K.written err.old) (K.written err.new) (status_line status.now) result.1 }
+    ensures line { PutLeaves (K.written err.old) (K.written err.new) (status_line status.now)
+        result.1 }
     ensures done { OnErr result.1 (status.now ≢ Status.Done) }
     ensures count { Counts (K.count err.old) (K.count err.new) (edge_fault result.1) }
 {

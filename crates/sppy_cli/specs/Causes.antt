@@ -30,7 +30,8 @@ joined_of request triple = source_of triple.core triple.periods triple.stoch req
 abbrev pub AreReadFrom : Option FileTable → Request → Triple → Type 0
 AreReadFrom files request triple = IfSome files (λ table. AreRead table request triple)
 
--- an instance of a request: its data are what the three files say, where these are told, and its run is the joined one
+-- an instance of a request: its data are what the three files say, where these are told, and its
+-- run is the joined one
 abbrev pub IsInstanceOf : Option FileTable → Request → Instance → Type 0
 IsInstanceOf files request i =
     AreReadFrom files request i.triple × IsJoined (joined_of request i.triple) request.options i.run
@@ -51,7 +52,8 @@ status_of_join join.Memory = status.Memory
 
 -- what a file says is a fault, and this is its status
 abbrev pub IsFaulty : {V : Type 0} → InputFile → Option (Result V (ℕ × InputKind)) → Status → Type 0
-IsFaulty file said status = (fault : ℕ × InputKind) × (said ≡ Some (Err fault)) × (status ≡ input_at file fault)
+IsFaulty file said status =
+  (fault : ℕ × InputKind) × (said ≡ Some (Err fault)) × (status ≡ input_at file fault)
 
 -- the core file has a fault
 abbrev pub CoreFails : FileTable → Request → Status → Type 0
@@ -84,8 +86,11 @@ JoinFails table request status =
 -- why a request has no run: the first of its files that has a fault, else what the join refuses
 abbrev pub IsCause : FileTable → Request → Status → Type 0
 IsCause table request status =
-    CoreFails table request status ⊎ TimeFails table request status ⊎ StochFails table request status ⊎ JoinFails table request status
+    CoreFails table request status ⊎ TimeFails table request status
+        ⊎ StochFails table request status ⊎ JoinFails table request status
 
--- the data keep what their readers answer beside them: the core has a column, and the stoch file's data stand beside core and periods
+-- the data keep what their readers answer beside them: the core has a column, and the stoch file's
+-- data stand beside core and periods
 abbrev pub KeepsFacts : Triple → Type 0
-KeepsFacts triple = (0 < length triple.core.columns) × StochFacts triple.core triple.periods triple.stoch
+KeepsFacts triple =
+  (0 < length triple.core.columns) × StochFacts triple.core triple.periods triple.stoch

@@ -1,4 +1,5 @@
--- Which status must come: where the files make a run and no fault is counted, and where there is a cause why they make none.
+-- Which status must come: where the files make a run and no fault is counted, and where there is a
+-- cause why they make none.
 use Rattle.std.specs.Prelude.{◌≡◌, ℕ, Option, Some, IfSome}
 use Rattle.io_edge.specs.Faults.{Rises}
 use Rattle.io_edge.specs.Shelves.{FileTable}
@@ -17,8 +18,10 @@ use Rattle.wait_and_see.specs.WaitAnswers.{AllHavePoints, IsSpent}
 abbrev pub IsCalm : ℕ → ℕ → Type 0
 IsCalm before after = Rises before after → ⊥
 
--- how a command ends by its run alone: it is done, and where it is `wait`, each scenario has a feasible point then;
--- or it is `wait`, and this scenario is the first one without a feasible point, or used up its budget before one was met;
+-- how a command ends by its run alone: it is done, and where it is `wait`, each scenario has a
+-- feasible point then;
+-- or it is `wait`, and this scenario is the first one without a feasible point, or used up its
+-- budget before one was met;
 -- want of memory is free
 abbrev pub EndsBy : Action → Run → Status → Type 0
 EndsBy action run status.Done = action ≡ Wait → AllHavePoints run
@@ -29,17 +32,21 @@ EndsBy action run _ = ⊥
 
 -- a request with a run ends by it
 abbrev pub EndsByRun : FileTable → Request → Status → Type 0
-EndsByRun table request status = (instance : Instance) × IsInstanceOf (Some table) request instance × EndsBy request.action instance.run status
+EndsByRun table request status = (instance : Instance) × IsInstanceOf (Some table) request instance
+  × EndsBy request.action instance.run status
 
--- where the files make a run, and neither the shelf's count nor the sink's rises, the command ends by its run
+-- where the files make a run, and neither the shelf's count nor the sink's rises, the command ends
+-- by its run
 abbrev pub CompletesIn : FileTable → Request → ℕ → ℕ → ℕ → ℕ → Status → Type 0
 CompletesIn table request read read_after written written_after status =
-    (instance : Instance) → IsInstanceOf (Some table) request instance → IsCalm read read_after → IsCalm written written_after → EndsByRun table request status
+    (instance : Instance) → IsInstanceOf (Some table) request instance → IsCalm read read_after
+        → IsCalm written written_after → EndsByRun table request status
 
 -- the same where the files are told and the words are well formed
 abbrev pub Completes : Option FileTable → Option Request → ℕ → ℕ → ℕ → ℕ → Status → Type 0
 Completes files asked read read_after written written_after status =
-    IfSome files (λ table. IfSome asked (λ request. CompletesIn table request read read_after written written_after status))
+    IfSome files (λ table. IfSome asked
+        (λ request. CompletesIn table request read read_after written written_after status))
 
 -- what a cause leaves: its own status, unless a load failed or memory was refused
 abbrev pub EndsByCause : Status → Status → Type 0
@@ -49,8 +56,10 @@ EndsByCause cause status = status ≡ cause
 
 -- a cause why there is no run is answered as it is
 abbrev pub RefusesIn : FileTable → Request → Status → Type 0
-RefusesIn table request status = (cause : Status) → IsCause table request cause → EndsByCause cause status
+RefusesIn table request status =
+  (cause : Status) → IsCause table request cause → EndsByCause cause status
 
 -- the same where the files are told and the words are well formed
 abbrev pub Refuses : Option FileTable → Option Request → Status → Type 0
-Refuses files asked status = IfSome files (λ table. IfSome asked (λ request. RefusesIn table request status))
+Refuses files asked status =
+  IfSome files (λ table. IfSome asked (λ request. RefusesIn table request status))

@@ -9,10 +9,13 @@ use Rattle.sppy_cli.specs.declared.instance.Instance.{Instance}
 use Rattle.sppy_cli.specs.declared.status.Status.{Status}
 use Rattle.sppy_cli.specs.declared.status.Status.TheVariants as status
 
--- why a request has no run: a cause in its files, where these are told; a failed load; or want of memory
+-- why a request has no run: a cause in its files, where these are told; a failed load; or want of
+-- memory
 abbrev pub HasNoRun : Option FileTable → Request → Status → Type 0
-HasNoRun files request (status.Input fault) = IfSome files (λ table. IsCause table request (status.Input fault))
-HasNoRun files request (status.Wide reach) = IfSome files (λ table. IsCause table request (status.Wide reach))
+HasNoRun files request (status.Input fault) =
+  IfSome files (λ table. IsCause table request (status.Input fault))
+HasNoRun files request (status.Wide reach) =
+  IfSome files (λ table. IsCause table request (status.Wide reach))
 HasNoRun files request (status.ReadFault faults) = Unit {0}
 HasNoRun files request status.Memory = Unit {0}
 HasNoRun files request _ = ⊥
@@ -27,13 +30,17 @@ abbrev pub LoadsInstance : Option FileTable → Request → Result Instance Stat
 LoadsInstance files request (Ok instance) = IsInstanceOf files request instance
 LoadsInstance files request (Err status) = HasNoRun files request status
 
--- a request is answered by its run, of which the text is written; or there is none, and nothing is written
-abbrev pub AnswersRequest : Option FileTable → Request → Option (List ℕ) → Option (List ℕ) → Status → Type 0
+-- a request is answered by its run, of which the text is written; or there is none, and nothing is
+-- written
+abbrev pub AnswersRequest : Option FileTable → Request → Option (List ℕ) → Option (List ℕ) → Status
+  → Type 0
 AnswersRequest files request old new status =
-    ((instance : Instance) × IsInstanceOf files request instance × Writes request.action instance old new status)
+    ((instance : Instance) × IsInstanceOf files request instance
+        × Writes request.action instance old new status)
     ⊎ (HasNoRun files request status × (new ≡ old))
 
 -- nothing is written where the words ask for nothing
-abbrev pub Answers : Option FileTable → Option Request → Option (List ℕ) → Option (List ℕ) → Status → Type 0
+abbrev pub Answers : Option FileTable → Option Request → Option (List ℕ) → Option (List ℕ) → Status
+  → Type 0
 Answers files None old new status = new ≡ old
 Answers files (Some request) old new status = AnswersRequest files request old new status

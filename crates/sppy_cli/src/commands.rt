@@ -21,7 +21,8 @@ use std::alloc::Global;
 // Writes what a command tells behind the heading.
 fn write_rest<K: Sink>(alloc: Global, out: &mut K, action: Action, instance: &Instance) -> Status
     requires { KeepsFacts instance.now.triple }
-    ensures written { WritesRest action instance.now (K.written out.old) (K.written out.new) result }
+    ensures written { WritesRest action instance.now (K.written out.old) (K.written out.new)
+        result }
     ensures count { CountsTo (K.count out.old) (K.count out.new) (write_fault_of result) }
     ensures read { read_fault_of result ≡ None }
 {

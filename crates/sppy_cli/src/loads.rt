@@ -46,7 +46,8 @@ fn load<S: Shelf>(alloc: Global, shelf: &mut S, name: &str) -> Result<Vec<u8>, F
     ensures gives { LoadsBytes (λ loaded. loaded.items) (S.files shelf.old) name.now result }
     ensures files { S.files shelf.new ≡ S.files shelf.old }
     ensures names { LoadsName name.now (S.names shelf.old) (S.names shelf.new) result }
-    ensures count { CountsTo (S.count shelf.old) (S.count shelf.new) (reported load_fault_of result) }
+    ensures count { CountsTo (S.count shelf.old) (S.count shelf.new)
+        (reported load_fault_of result) }
 {
     match shelf.load(alloc, name, MAX_FILE_BYTES) {
         Ok(bytes) => Ok(bytes),
@@ -66,7 +67,8 @@ pub fn load_core<S: Shelf>(alloc: Global, shelf: &mut S, name: &str) -> Result<C
     ensures gives { Loads core_file IsCoreOf (S.files shelf.old) name.now result }
     ensures files { S.files shelf.new ≡ S.files shelf.old }
     ensures names { LoadsName name.now (S.names shelf.old) (S.names shelf.new) result }
-    ensures count { CountsTo (S.count shelf.old) (S.count shelf.new) (reported load_fault_of result) }
+    ensures count { CountsTo (S.count shelf.old) (S.count shelf.new)
+        (reported load_fault_of result) }
 {
     let bytes = load(alloc, shelf, name)?;
     match read_core(alloc, &bytes) {
@@ -90,7 +92,8 @@ pub fn load_time<S: Shelf>(
     ensures columns { IfOk result (λ (_ : Periods). 0 < length core.now.columns) }
     ensures files { S.files shelf.new ≡ S.files shelf.old }
     ensures names { LoadsName name.now (S.names shelf.old) (S.names shelf.new) result }
-    ensures count { CountsTo (S.count shelf.old) (S.count shelf.new) (reported load_fault_of result) }
+    ensures count { CountsTo (S.count shelf.old) (S.count shelf.new)
+        (reported load_fault_of result) }
 {
     let bytes = load(alloc, shelf, name)?;
     match read_time(alloc, &bytes, core) {
@@ -116,7 +119,8 @@ pub fn load_stoch<S: Shelf>(
     ensures beside { IfOk result (λ stoch. StochFacts core.now periods.now stoch) }
     ensures files { S.files shelf.new ≡ S.files shelf.old }
     ensures names { LoadsName name.now (S.names shelf.old) (S.names shelf.new) result }
-    ensures count { CountsTo (S.count shelf.old) (S.count shelf.new) (reported load_fault_of result) }
+    ensures count { CountsTo (S.count shelf.old) (S.count shelf.new)
+        (reported load_fault_of result) }
 {
     let bytes = load(alloc, shelf, name)?;
     match read_stoch(alloc, &bytes, core, periods) {

@@ -52,7 +52,8 @@ fn load_files<S: Shelf>(
     ensures files { S.files shelf.new ≡ S.files shelf.old }
     ensures names { LoadsAllInTurn (S.files shelf.old) (request_of command.now)
         (S.names shelf.old) (S.names shelf.new) result }
-    ensures count { CountsTo (S.count shelf.old) (S.count shelf.new) (reported read_fault_of result) }
+    ensures count { CountsTo (S.count shelf.old) (S.count shelf.new)
+        (reported read_fault_of result) }
 {
     let core = match load_core(alloc, shelf, command.core) {
         Ok(core) => core,
@@ -87,7 +88,8 @@ pub fn load_instance<S: Shelf>(
     ensures files { S.files shelf.new ≡ S.files shelf.old }
     ensures names { LoadsAllInTurn (S.files shelf.old) (request_of command.now)
         (S.names shelf.old) (S.names shelf.new) result }
-    ensures count { CountsTo (S.count shelf.old) (S.count shelf.new) (reported read_fault_of result) }
+    ensures count { CountsTo (S.count shelf.old) (S.count shelf.new)
+        (reported read_fault_of result) }
 {
     let triple = match load_files(alloc, shelf, command) {
         Ok(triple) => triple,

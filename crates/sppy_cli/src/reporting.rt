@@ -9,7 +9,8 @@ use std::alloc::Global;
 
 /// Writes the line of a status by one put; of Done, which has none, nothing.
 pub fn report<K: Sink>(alloc: Global, status: &Status, out: &mut K) -> Result<(), EdgeFault>
-    ensures line { PutLeaves (K.written out.old) (K.written out.new) (status_line status.now) result }
+    ensures line { PutLeaves (K.written out.old) (K.written out.new) (status_line status.now)
+        result }
     ensures done { OnErr result (status.now ≢ Status.Done) }
     ensures count { Counts (K.count out.old) (K.count out.new) (edge_fault result) }
 {

@@ -102,7 +102,8 @@ fn put_scenarios<K: Sink>(alloc: Global, out: &mut K, instance: &Instance) -> Re
 // Writes all that `show` tells behind the heading.
 fn put_show<K: Sink>(alloc: Global, out: &mut K, instance: &Instance) -> Result<(), Status>
     requires { KeepsFacts instance.now.triple }
-    ensures text { PutsText (show_rest instance.now) (K.written out.old) (K.written out.new) result }
+    ensures text { PutsText (show_rest instance.now) (K.written out.old) (K.written out.new)
+        result }
     ensures count { CountsTo (K.count out.old) (K.count out.new) (reported write_fault_of result) }
 {
     match put_columns(alloc, out, instance) {

@@ -27,7 +27,9 @@ emptied c = with_room (room_of c)
 abbrev pub longer_part : Contents ℕ → ℕ → Contents ℕ
 longer_part c n = record { items = c.items ++ n ∷ []; spare = c.spare - 1 }
 
--- what a reader shows: the first of the windows that it reads one after another, the words of each, which of them is read, whether its reading is begun, the stamp of this reading, and the last entry that was read whole
+-- what a reader shows: the first of the windows that it reads one after another, the words of each,
+-- which of them is read, whether its reading is begun, the stamp of this reading, and the last
+-- entry that was read whole
 pub record Reader : Type 0 where
   pub window : ℕ
   pub parts : List (Contents ℕ)
@@ -48,14 +50,16 @@ window_of s = s.window + s.rank
 
 -- a reader that has read nothing
 abbrev pub fresh_reader : ℕ → List (Contents ℕ) → Reader
-fresh_reader w parts = record { window = w; parts = parts; rank = 0; begun = false; first = 0; last = 0 }
+fresh_reader w parts = record { window = w; parts = parts; rank = 0; begun = false; first = 0;
+  last = 0 }
 
 -- a stamp is that of an entry newer than the last
 pub record IsNewer (last n : ℕ) : Type 0 where
   pub even : n % 2 ≡ 0
   pub newer : last < n / 2
 
--- what a reader keeps: it reads one of its windows, and a reading goes on only at the stamp of a newer entry
+-- what a reader keeps: it reads one of its windows, and a reading goes on only at the stamp of a
+-- newer entry
 pub record IsReader (s : Reader) : Type 0 where
   pub below : s.rank < length s.parts
   pub begins_newer : s.begun ≡ true → IsNewer s.last s.first
@@ -66,7 +70,8 @@ abbrev pub due_begun : Bool → ℕ → Call
 due_begun full w = if full then call.End w else call.Read w
 
 abbrev pub due : Reader → Call
-due s = if s.begun then due_begun (nat_eq (part s s.rank).spare 0) (window_of s) else call.Begin (window_of s)
+due s = if s.begun then due_begun (nat_eq (part s s.rank).spare 0) (window_of s)
+  else call.Begin (window_of s)
 
 -- the first window has no newer entry
 abbrev pub stale : Reader → ℕ → Option Again
@@ -78,7 +83,8 @@ mixed s n = if nat_eq n s.first then None else Some (Mixed s.rank s.first n)
 
 -- why no reading begins at the stamp n
 abbrev pub unfit : Reader → ℕ → Option Again
-unfit s n = if nat_eq (n % 2) 1 then Some (Odd s.rank n) else (if nat_eq s.rank 0 then stale s n else mixed s n)
+unfit s n = if nat_eq (n % 2) 1 then Some (Odd s.rank n)
+  else (if nat_eq s.rank 0 then stale s n else mixed s n)
 
 -- the next reading begins at the first window
 abbrev pub restarted : Reader → Reader
@@ -86,7 +92,8 @@ restarted s = record s { rank = 0; begun = false }
 
 -- a reading of the window begins at the stamp n
 abbrev pub begins : Option Again → Reader → ℕ → Reader
-begins None s n = record s { begun = true; first = n; parts = slice_set s.parts s.rank (emptied (part s s.rank)) }
+begins None s n =
+  record s { begun = true; first = n; parts = slice_set s.parts s.rank (emptied (part s s.rank)) }
 begins (Some again) s n = restarted s
 
 abbrev pub begins_told : Option Again → Read
@@ -99,7 +106,8 @@ reads s n = record s { parts = slice_set s.parts s.rank (longer_part (part s s.r
 
 -- its words are whole: the next window follows, or the entry is read
 abbrev pub follows : Bool → Reader → Reader
-follows more s = if more then record s { rank = s.rank + 1; begun = false } else record s { rank = 0; begun = false; last = s.first / 2 }
+follows more s = if more then record s { rank = s.rank + 1; begun = false }
+  else record s { rank = 0; begun = false; last = s.first / 2 }
 
 abbrev pub follows_told : Bool → Reader → Read
 follows_told more s = if more then read.Going else read.Reading (s.first / 2)
@@ -113,7 +121,8 @@ abbrev pub ends : Reader → ℕ → Reader
 ends s n = if nat_eq n s.first then follows (is_more s) s else restarted s
 
 abbrev pub ends_told : Reader → ℕ → Read
-ends_told s n = if nat_eq n s.first then follows_told (is_more s) s else read.Again (Torn s.rank s.first n)
+ends_told s n =
+  if nat_eq n s.first then follows_told (is_more s) s else read.Again (Torn s.rank s.first n)
 
 -- the reader after the answer n of a call, and what it tells
 abbrev pub next : Call → Reader → ℕ → Reader

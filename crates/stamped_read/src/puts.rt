@@ -53,7 +53,8 @@ impl StampedReader {
     pub fn new<M: Meaning>(alloc: Global, of: &M) -> Result<StampedReader, AllocError>
         requires { 0 < M.lead of.now }
         ensures fresh { IfOk result (λ reader. reader
-            ≡ fresh_reader 0 (map (fresh_part (M.wide of.now)) (range_with_len 0 (M.lead of.now)))) }
+            ≡ fresh_reader 0 (map (fresh_part (M.wide of.now))
+                (range_with_len 0 (M.lead of.now)))) }
         ensures reads { IfOk result (λ reader. (v : View) →
             ReadsFor (M.entry of.now) (M.wide of.now) (M.count of.now) v reader) }
     {

@@ -44,14 +44,16 @@ abbrev pub block_names_in : Option Heading → TextLine → List (List ℕ)
 block_names_in section line = if is_block_line section line then field 1 line ∷ [] else []
 
 abbrev pub blocks_of : List TextLine → List (List ℕ)
-blocks_of lines = fold with_name [] (all_told (λ before line. block_names_in (section_of before) line) [] lines)
+blocks_of lines =
+  fold with_name [] (all_told (λ before line. block_names_in (section_of before) line) [] lines)
 
 abbrev pub names_of : List TextLine → List (List ℕ)
 names_of lines = all_told (λ before line. scenario_names (section_of before) line) [] lines
 
 module _ (core : Core) (periods : Periods) where
   abbrev pub sayings_of : List TextLine → List Saying
-  sayings_of lines = all_told (λ before line. sayings core periods (section_of before) (blocks_of before) line) [] lines
+  sayings_of lines = all_told
+      (λ before line. sayings core periods (section_of before) (blocks_of before) line) [] lines
 
   -- the elements: one for each place and block, in order of first appearance
   abbrev pub sources_of : List TextLine → List Source
@@ -60,18 +62,22 @@ module _ (core : Core) (periods : Periods) where
   -- the period that the first line of each element says
   abbrev pub periods_of : List TextLine → List ℕ
   periods_of lines =
-      all_told (λ before line. new_periods (sources_of before) (sayings core periods (section_of before) (blocks_of before) line)) [] lines
+      all_told (λ before line. new_periods (sources_of before)
+          (sayings core periods (section_of before) (blocks_of before) line)) [] lines
 
   abbrev pub realisations_of : List TextLine → List Chosen
   realisations_of lines =
-      all_told (λ before line. map (chosen_by (sources_of before)) (sayings core periods (section_of before) (blocks_of before) line)) [] lines
+      all_told (λ before line. map (chosen_by (sources_of before))
+          (sayings core periods (section_of before) (blocks_of before) line)) [] lines
 
   abbrev pub scenarios_of : List TextLine → List ScenarioHead
-  scenarios_of lines = all_told (λ before line. scenario_heads periods (section_of before) (names_of before) line) [] lines
+  scenarios_of lines = all_told
+      (λ before line. scenario_heads periods (section_of before) (names_of before) line) [] lines
 
   abbrev pub entries_of : List TextLine → List Owned
   entries_of lines =
-      all_told (λ before line. owned_entries core (section_of before) (sources_of before) (realisations_of before) (scenarios_of before) line) [] lines
+      all_told (λ before line. owned_entries core (section_of before) (sources_of before)
+          (realisations_of before) (scenarios_of before) line) [] lines
 
   abbrev pub before_of : List TextLine → Before
   before_of lines = record {
@@ -96,7 +102,8 @@ module _ (core : Core) (periods : Periods) where
         sources = fold with_source b.sources said;
         periods = b.periods ++ new_periods b.sources said;
         realisations = b.realisations ++ map (chosen_by b.sources) said;
-        entries = b.entries ++ owned_entries core b.section b.sources b.realisations b.scenarios line;
+        entries =
+            b.entries ++ owned_entries core b.section b.sources b.realisations b.scenarios line;
         scenarios = b.scenarios ++ scenario_heads periods b.section b.names line;
         names = b.names ++ scenario_names b.section line;
       }
@@ -120,7 +127,8 @@ with_saying b saying = record b {
 -- and of the realisation's one entry
 abbrev pub with_single : Before → Saying → StochEntry → Before
 with_single b saying entry = record (with_saying b saying) {
-  entries = b.entries ++ owned_by (element_of b.sources saying.source) (length b.realisations) entry ∷ [];
+  entries =
+      b.entries ++ owned_by (element_of b.sources saying.source) (length b.realisations) entry ∷ [];
 }
 
 -- and of a block, which may be new

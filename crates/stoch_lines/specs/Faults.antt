@@ -41,19 +41,23 @@ number_kind (decimal_faults.TooLarge negative) = TooLarge
 abbrev pub number_fault : List ℕ → Option StochKind
 number_fault text = numbers.number_fault number_kind text
 
--- whether a number is above 0 and at most 10^9: its mantissa has the places behind the point besides
+-- whether a number is above 0 and at most 10^9: its mantissa has the places behind the point
+-- besides
 abbrev pub is_probability : Decimal → Bool
-is_probability d = int_lt (pos 0) d.mantissa && not (int_lt (pos (10 ^ (max_probability + d.places))) d.mantissa)
+is_probability d =
+  int_lt (pos 0) d.mantissa && not (int_lt (pos (10 ^ (max_probability + d.places))) d.mantissa)
 
 abbrev pub probability_fault : List ℕ → Option StochKind
-probability_fault text = number_fault text or first_true ((not (is_probability (number_in text)), Weight) ∷ [])
+probability_fault text =
+  number_fault text or first_true ((not (is_probability (number_in text)), Weight) ∷ [])
 
 abbrev pub period_fault : Periods → List ℕ → Option StochKind
 period_fault periods name = first_true ((is_none (period_of periods name), Unknown) ∷ [])
 
 -- a line's first field, the row in its field k, and the value behind it
 abbrev pub pair_fault : Core → ℕ → TextLine → Option StochKind
-pair_fault core k line = first_true ((is_none (place_at core k line), Unknown) ∷ []) or number_fault (field (k + 1) line)
+pair_fault core k line =
+  first_true ((is_none (place_at core k line), Unknown) ∷ []) or number_fault (field (k + 1) line)
 
 -- the last entry before that has a place
 abbrev pub last_at : StochPlace → List Owned → Option Owned
@@ -61,11 +65,13 @@ last_at place entries = find (λ owned. same_place owned.entry.place place) (rev
 
 -- whether a place belongs to another element
 abbrev pub is_taken : List Owned → ℕ → StochPlace → Bool
-is_taken entries element place = option_map_or (λ owned. not (owned.element == element)) (last_at place entries) false
+is_taken entries element place =
+  option_map_or (λ owned. not (owned.element == element)) (last_at place entries) false
 
 -- whether a place stands already in a realisation or a scenario, the last one
 abbrev pub is_given : List Owned → ℕ → StochPlace → Bool
-is_given entries choice place = option_map_or (λ owned. owned.choice == choice) (last_at place entries) false
+is_given entries choice place =
+  option_map_or (λ owned. owned.choice == choice) (last_at place entries) false
 
 -- the period of an element: its own, or the one said where the line is its first
 abbrev pub own_period : Before → Saying → ℕ
@@ -73,7 +79,8 @@ own_period b saying = slice_index_or b.periods (element_of b.sources saying.sour
 
 -- the period that a line of INDEP names, if it has five fields
 abbrev pub named_fault : Periods → TextLine → Option StochKind
-named_fault periods line = if field_count line == 5 then period_fault periods (field 3 line) else None
+named_fault periods line =
+  if field_count line == 5 then period_fault periods (field 3 line) else None
 
 -- the form of a line of INDEP
 abbrev pub indep_form : Core → Periods → TextLine → Option StochKind
@@ -97,7 +104,8 @@ indep_rules periods b place named saying =
 abbrev pub indep_fault : Core → Periods → Before → TextLine → Option StochKind
 indep_fault core periods b line =
     indep_form core periods line
-    or indep_rules periods b (entry_at core 1 line).place (named_period periods line) (indep_saying core periods line)
+    or indep_rules periods b (entry_at core 1 line).place (named_period periods line)
+        (indep_saying core periods line)
 
 -- a line that begins a realisation of a block
 abbrev pub block_form : Periods → TextLine → Option StochKind
@@ -112,7 +120,8 @@ block_rules b saying =
     first_true ((period == 1, EarlyEntry) ∷ (not (saying.period == period), Clash) ∷ [])
 
 abbrev pub block_fault : Periods → Before → TextLine → Option StochKind
-block_fault periods b line = block_form periods line or block_rules b (block_saying periods b.blocks line)
+block_fault periods b line =
+  block_form periods line or block_rules b (block_saying periods b.blocks line)
 
 -- whether a name stands for the core where a parent is named
 abbrev pub is_root : List ℕ → Bool
@@ -132,7 +141,8 @@ scenario_form b line =
     ∷ [])
 
 abbrev pub scenario_numbers : Periods → TextLine → Option StochKind
-scenario_numbers periods line = probability_fault (field 3 line) or period_fault periods (field 4 line)
+scenario_numbers periods line =
+  probability_fault (field 3 line) or period_fault periods (field 4 line)
 
 abbrev pub scenario_fault : Periods → Before → TextLine → Option StochKind
 scenario_fault periods b line =
@@ -140,11 +150,13 @@ scenario_fault periods b line =
     or (scenario_numbers periods line
     or first_true ((is_scenario b (field 1 line) || is_root (field 1 line), Twice) ∷ []))
 
--- whether a place in a line was given before in the realisation or scenario, or stands twice in the line
+-- whether a place in a line was given before in the realisation or scenario, or stands twice in the
+-- line
 abbrev pub is_repeated : List Owned → ℕ → List StochPlace → Bool
 is_repeated entries choice [] = false
 is_repeated entries choice (place ∷ places) =
-    is_given entries choice place || (list_any (same_place place) places || is_repeated entries choice places)
+    is_given entries choice place
+        || (list_any (same_place place) places || is_repeated entries choice places)
 
 -- the places of a line with one or two pairs
 abbrev pub places_at : Core → TextLine → List StochPlace
@@ -179,9 +191,11 @@ block_data_fault core periods b line =
     let earliest = slice_index_or b.periods (last_element b.realisations) 0 in
     pairs_fault core line or places_rules periods earliest (is_twice_in_block b places) places
 
--- the stage from which the last scenario may differ from its parent: its period, but at least the second
+-- the stage from which the last scenario may differ from its parent: its period, but at least the
+-- second
 abbrev pub branching_stage : List ScenarioHead → ℕ
-branching_stage scenarios = max 2 (option_map_or (λ s. s.period) (slice_get scenarios (length scenarios - 1)) 0)
+branching_stage scenarios =
+  max 2 (option_map_or (λ s. s.period) (slice_get scenarios (length scenarios - 1)) 0)
 
 -- a line of data in a scenario
 abbrev pub scenario_data_fault : Core → Periods → Before → TextLine → Option StochKind
@@ -190,7 +204,8 @@ scenario_data_fault core periods b line =
     let twice = is_repeated b.entries (length b.scenarios - 1) places in
     pairs_fault core line or places_rules periods (branching_stage b.scenarios) twice places
 
--- a line of BLOCKS, and of SCENARIOS: data stand behind a line that begins a realisation or a scenario
+-- a line of BLOCKS, and of SCENARIOS: data stand behind a line that begins a realisation or a
+-- scenario
 abbrev pub blocks_fault : Core → Periods → Before → TextLine → Option StochKind
 blocks_fault core periods b line =
     if begins_block line then block_fault periods b line
@@ -208,7 +223,8 @@ data_fault core periods (Some Indep) b line = indep_fault core periods b line
 data_fault core periods (Some Blocks) b line = blocks_fault core periods b line
 data_fault core periods (Some Scenarios) b line = scenarios_fault core periods b line
 
--- whether a section may begin behind another: INDEP and BLOCKS not behind SCENARIOS, and SCENARIOS behind none
+-- whether a section may begin behind another: INDEP and BLOCKS not behind SCENARIOS, and SCENARIOS
+-- behind none
 abbrev pub may_follow : Option Heading → Option Heading → Bool
 may_follow None section = false
 may_follow (Some Scenarios) section = is_none section
@@ -232,7 +248,9 @@ abbrev pub has_mode : TextLine → Bool
 has_mode line = (field_count line == 1) || (has_one_mode line || has_both_modes line)
 
 abbrev pub section_fault : Option Heading → TextLine → Option StochKind
-section_fault section line = first_true ((not (may_follow (heading_of (field 0 line)) section), Section) ∷ (not (has_mode line), Mode) ∷ [])
+section_fault section line = first_true
+  ((not (may_follow (heading_of (field 0 line)) section), Section) ∷ (not (has_mode line), Mode)
+  ∷ [])
 
 -- a header
 abbrev pub header_fault : Before → TextLine → Option StochKind
@@ -243,7 +261,8 @@ header_fault b line =
 
 -- any line
 abbrev pub line_fault : Core → Periods → Before → TextLine → Option StochKind
-line_fault core periods b line = if line.header then header_fault b line else data_fault core periods b.section b line
+line_fault core periods b line =
+  if line.header then header_fault b line else data_fault core periods b.section b line
 
 -- whether a line ends the file
 abbrev pub is_end : TextLine → Bool

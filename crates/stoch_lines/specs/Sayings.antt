@@ -37,7 +37,8 @@ begins_block line = bytes_eq (field 0 line) (codes "BL")
 abbrev pub begins_scenario : TextLine → Bool
 begins_scenario line = bytes_eq (field 0 line) (codes "SC")
 
--- whether a line is a header, which ends what was begun, or has the first field of one that begins a realisation or a scenario
+-- whether a line is a header, which ends what was begun, or has the first field of one that begins
+-- a realisation or a scenario
 abbrev pub opens_or_ends : TextLine → Bool
 opens_or_ends line = line.header || (begins_block line || begins_scenario line)
 
@@ -59,13 +60,15 @@ entry_at core k line = record {
 
 -- the entries of a line with one or two pairs of row and value
 abbrev pub entries_at : Core → TextLine → List StochEntry
-entries_at core line = entry_at core 1 line ∷ (if field_count line == 5 then entry_at core 3 line ∷ [] else [])
+entries_at core line =
+  entry_at core 1 line ∷ (if field_count line == 5 then entry_at core 3 line ∷ [] else [])
 
 -- the period that a line of INDEP names, if it has five fields
 abbrev pub named_period : Periods → TextLine → Option ℕ
 named_period periods line = if field_count line == 5 then period_of periods (field 3 line) else None
 
--- a line of INDEP belongs to the element of its place; its period is the one named, or else the stage of the place
+-- a line of INDEP belongs to the element of its place; its period is the one named, or else the
+-- stage of the place
 abbrev pub saying_at : Periods → StochPlace → Option ℕ → Decimal → Saying
 saying_at periods place named probability = record {
   source = Place place;
@@ -75,7 +78,8 @@ saying_at periods place named probability = record {
 
 abbrev pub indep_saying : Core → Periods → TextLine → Saying
 indep_saying core periods line =
-    saying_at periods (entry_at core 1 line).place (named_period periods line) (number_in (last_field line))
+    saying_at periods (entry_at core 1 line).place (named_period periods line)
+        (number_in (last_field line))
 
 -- the number of a block: its own, or the next where no line before has its name
 abbrev pub block_number : List (List ℕ) → TextLine → ℕ
@@ -89,16 +93,19 @@ block_saying periods blocks line = record {
   probability = number_in (field 3 line);
 }
 
--- what a line of data says of elements in a section: each line of INDEP does, in BLOCKS the lines that begin a realisation
+-- what a line of data says of elements in a section: each line of INDEP does, in BLOCKS the lines
+-- that begin a realisation
 abbrev pub saying_in : Core → Periods → Option Heading → List (List ℕ) → TextLine → List Saying
 saying_in core periods None blocks line = []
 saying_in core periods (Some Indep) blocks line = indep_saying core periods line ∷ []
-saying_in core periods (Some Blocks) blocks line = if begins_block line then block_saying periods blocks line ∷ [] else []
+saying_in core periods (Some Blocks) blocks line =
+  if begins_block line then block_saying periods blocks line ∷ [] else []
 saying_in core periods (Some Scenarios) blocks line = []
 
 -- the same of any line
 abbrev pub sayings : Core → Periods → Option Heading → List (List ℕ) → TextLine → List Saying
-sayings core periods section blocks line = if line.header then [] else saying_in core periods section blocks line
+sayings core periods section blocks line =
+  if line.header then [] else saying_in core periods section blocks line
 
 -- whether a section is BLOCKS, and whether it is SCENARIOS
 abbrev pub is_blocks : Option Heading → Bool
@@ -123,47 +130,59 @@ with_name names name = if list_any (bytes_eq name) names then names else (names 
 
 -- the elements' sources with one more, where it is new
 abbrev pub with_new : List Source → Source → List Source
-with_new sources source = if list_any (same_source source) sources then sources else (sources ++ source ∷ [])
+with_new sources source =
+  if list_any (same_source source) sources then sources else (sources ++ source ∷ [])
 
 abbrev pub with_source : List Source → Saying → List Source
 with_source sources saying = with_new sources saying.source
 
 -- the period of an element that a line begins
 abbrev pub new_period : List Source → Saying → List ℕ
-new_period sources saying = if list_any (same_source saying.source) sources then [] else (saying.period ∷ [])
+new_period sources saying =
+  if list_any (same_source saying.source) sources then [] else (saying.period ∷ [])
 
 abbrev pub new_periods : List Source → List Saying → List ℕ
 new_periods sources [] = []
 new_periods sources (saying ∷ _) = new_period sources saying
 
--- the number of the element to which a line belongs: its own, or the next where the line is its first
+-- the number of the element to which a line belongs: its own, or the next where the line is its
+-- first
 abbrev pub element_of : List Source → Source → ℕ
 element_of sources source = position_or_len (same_source source) sources
 
 -- a realisation: its element's number and its probability
 abbrev pub chosen_by : List Source → Saying → Chosen
-chosen_by sources saying = record { element = element_of sources saying.source; probability = saying.probability }
+chosen_by sources saying = record { element = element_of sources saying.source;
+  probability = saying.probability }
 
 -- the number of the element of the last realisation
 abbrev pub last_element : List Chosen → ℕ
-last_element realisations = option_map_or (λ r. r.element) (slice_get realisations (length realisations - 1)) 0
+last_element realisations =
+  option_map_or (λ r. r.element) (slice_get realisations (length realisations - 1)) 0
 
 -- an entry of a realisation of an element, or of a scenario
 abbrev pub owned_by : ℕ → ℕ → StochEntry → Owned
 owned_by element choice entry = record { element = element; choice = choice; entry = entry }
 
--- the entries of a line of data in a section: those of INDEP belong to the line's own realisation, those of the other sections to the last realisation or scenario
-abbrev pub entries_in : Core → Option Heading → List Source → List Chosen → List ScenarioHead → TextLine → List Owned
+-- the entries of a line of data in a section: those of INDEP belong to the line's own realisation,
+-- those of the other sections to the last realisation or scenario
+abbrev pub entries_in : Core → Option Heading → List Source → List Chosen → List ScenarioHead
+  → TextLine → List Owned
 entries_in core None sources realisations scenarios line = []
 entries_in core (Some Indep) sources realisations scenarios line =
-    let entry = entry_at core 1 line in owned_by (element_of sources (Place entry.place)) (length realisations) entry ∷ []
+    let entry = entry_at core 1 line in owned_by (element_of sources (Place entry.place))
+        (length realisations) entry ∷ []
 entries_in core (Some Blocks) sources realisations scenarios line =
-    if begins_block line then [] else map (owned_by (last_element realisations) (length realisations - 1)) (entries_at core line)
+    if begins_block line then []
+        else map (owned_by (last_element realisations) (length realisations - 1))
+        (entries_at core line)
 entries_in core (Some Scenarios) sources realisations scenarios line =
-    if begins_scenario line then [] else map (owned_by 0 (length scenarios - 1)) (entries_at core line)
+    if begins_scenario line then []
+        else map (owned_by 0 (length scenarios - 1)) (entries_at core line)
 
 -- the same of any line
-abbrev pub owned_entries : Core → Option Heading → List Source → List Chosen → List ScenarioHead → TextLine → List Owned
+abbrev pub owned_entries : Core → Option Heading → List Source → List Chosen → List ScenarioHead
+  → TextLine → List Owned
 owned_entries core section sources realisations scenarios line =
     if line.header then [] else entries_in core section sources realisations scenarios line
 
@@ -176,7 +195,8 @@ scenario_head periods names line = record {
 }
 
 abbrev pub scenario_heads : Periods → Option Heading → List (List ℕ) → TextLine → List ScenarioHead
-scenario_heads periods section names line = if is_scenario_line section line then scenario_head periods names line ∷ [] else []
+scenario_heads periods section names line =
+  if is_scenario_line section line then scenario_head periods names line ∷ [] else []
 
 abbrev pub scenario_names : Option Heading → TextLine → List (List ℕ)
 scenario_names section line = if is_scenario_line section line then field 1 line ∷ [] else []

@@ -1,4 +1,5 @@
--- What the lines of a stoch file come to beside a core and its periods: all that they say, or the first fault.
+-- What the lines of a stoch file come to beside a core and its periods: all that they say, or the
+-- first fault.
 use Rattle.std.specs.Prelude.{◌≡◌, ℕ, ◌<◌, List, [], length, Option, Result, Ok, Err}
 use Rattle.line_core.specs.SplitLines.{lines_of}
 use Rattle.line_core.specs.declared.line_list.Line.{Line}
@@ -22,20 +23,24 @@ abbrev pub fault_after : Core → Periods → List TextLine → TextLine → Opt
 fault_after core periods before line = line_fault core periods (before_of core periods before) line
 
 -- each line judged by the lines before it
-abbrev pub stoch_outcome : Core → Periods → List TextLine → Outcome TextLine StochKind (List TextLine)
+abbrev pub stoch_outcome : Core → Periods → List TextLine
+  → Outcome TextLine StochKind (List TextLine)
 stoch_outcome core periods lines = outcome (fault_after core periods) is_end [] lines
 
 -- what lines say up to the end, as it is
 abbrev pub said_whole : Before → Before
 said_whole b = b
 
--- what the lines of a stoch file mean: all that they say, or the number and the kind of the first fault
+-- what the lines of a stoch file mean: all that they say, or the number and the kind of the first
+-- fault
 abbrev pub lines_meaning : Core → Periods → List TextLine → Result Before (ℕ × StochKind)
 lines_meaning core periods lines =
-    answer_of said_whole (last_number lines) NoEnd (seen_by (before_of core periods) (stoch_outcome core periods lines))
+    answer_of said_whole (last_number lines) NoEnd
+        (seen_by (before_of core periods) (stoch_outcome core periods lines))
 
 -- the same for what the file is read as; no file is read as want of memory
-abbrev pub read_meaning : Core → Periods → List ℕ → Result (List Line) LineFault → Result Before (ℕ × StochKind)
+abbrev pub read_meaning : Core → Periods → List ℕ → Result (List Line) LineFault
+  → Result Before (ℕ × StochKind)
 read_meaning core periods bytes (Ok found) = lines_meaning core periods (text_lines bytes found)
 read_meaning core periods bytes (Err (lines.NotAscii line)) = Err (line, NotAscii)
 read_meaning core periods bytes (Err (lines.TooLong line)) = Err (line, LongLine)
@@ -60,14 +65,17 @@ abbrev pub AreSome : List Line → Type 0
 AreSome lines = 0 < length lines
 
 -- what lines come to, line by line from a state on
-abbrev pub stepped_from : Core → Periods → Before → List TextLine → Outcome TextLine StochKind Before
-stepped_from core periods b lines = folded (line_fault core periods) is_end (next core periods) b lines
+abbrev pub stepped_from : Core → Periods → Before → List TextLine
+  → Outcome TextLine StochKind Before
+stepped_from core periods b lines =
+  folded (line_fault core periods) is_end (next core periods) b lines
 
 abbrev pub stepped : Core → Periods → List TextLine → Outcome TextLine StochKind Before
 stepped core periods lines = stepped_from core periods nothing_said lines
 
 -- the answer for lines by what they come to
-abbrev pub answer_for : List TextLine → Outcome TextLine StochKind Before → Result Before (ℕ × StochKind)
+abbrev pub answer_for : List TextLine → Outcome TextLine StochKind Before
+  → Result Before (ℕ × StochKind)
 answer_for lines come_to = answer_of said_whole (last_number lines) NoEnd come_to
 
 -- what the lines of a file mean, line by line

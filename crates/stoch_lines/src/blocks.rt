@@ -85,7 +85,8 @@ impl State {
 
     fn begin_realisation(&mut self, name: &[u8], saying: &Saying) -> Result<(), AllocError>
         ensures { OnOk result
-            (before_in self.new ≡ with_saying (with_block (before_in self.old) name.now) saying.now) }
+            (before_in self.new ≡ with_saying (with_block (before_in self.old) name.now)
+                saying.now) }
     {
         add_name(&mut self.blocks, name)?;
         self.add_realisation(saying)

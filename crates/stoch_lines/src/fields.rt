@@ -55,7 +55,8 @@ fn kind_of(fault: DecFault) -> StochKind
 
 /// The number of a field, or its fault.
 pub fn number_of_text(text: &[u8]) -> Result<Decimal, StochKind>
-    ensures { Passes (number_fault text.now) result (λ d. (d ≡ number_in text.now) × (d.places ≤ 9)) }
+    ensures { Passes (number_fault text.now) result
+        (λ d. (d ≡ number_in text.now) × (d.places ≤ 9)) }
 {
     match read(text) {
         Ok(number) => Ok(number),

@@ -7,7 +7,8 @@ use Rattle.smps_words.specs.declared.core_file.Core.{Core}
 use Rattle.sp_model.specs.declared.run.Run.{Run}
 use Rattle.text_lines.specs.Lines.{line_of}
 
--- one over this number is the unit in which the bounds of a run are whole numbers: scale times total weight times cost scale
+-- one over this number is the unit in which the bounds of a run are whole numbers: scale times
+-- total weight times cost scale
 abbrev pub unit_of : Run → ℤ
 unit_of run = (run.options.scale *ℤ run.total) *ℤ run.program.cost_scale
 

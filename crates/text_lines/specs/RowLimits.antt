@@ -8,7 +8,8 @@ use Rattle.sp_model.specs.declared.program.Change.TheVariants as change
 abbrev pub with_limits : List Limits → Change → List Limits
 with_limits limits (change.Cost column value) = limits
 with_limits limits (change.Cell row column value) = limits
-with_limits limits (change.Limits row lower upper) = slice_set limits row (record { lower = lower; upper = upper })
+with_limits limits (change.Limits row lower upper) =
+  slice_set limits row (record { lower = lower; upper = upper })
 
 -- what stands past the end of limits
 abbrev pub no_limits : Limits

@@ -1,4 +1,5 @@
--- All that `show` tells of a run: its columns, its rows, and each scenario with its nodes and the limits of its rows.
+-- All that `show` tells of a run: its columns, its rows, and each scenario with its nodes and the
+-- limits of its rows.
 use Rattle.std.specs.Prelude.{ℕ, ◌+◌, ◌^◌, List, ◌∷◌, ◌++◌, length, map, codes, decimal, None, slice_index_or}
 use Rattle.std.specs.Fmt.{signed_decimal}
 use Rattle.std.specs.List.{flat_map, range_with_len}
@@ -26,7 +27,8 @@ abbrev pub column_text : List ℕ → Column → List ℕ
 column_text name column = codes "column " ++ name ++ codes " " ++ decimal column.stage ++ box_text column
 
 abbrev pub column_line : Core → Run → ℕ → List ℕ
-column_line core run j = line_of (column_text (name_at core.column_names j) (slice_index_or run.program.columns j no_column))
+column_line core run j = line_of
+  (column_text (name_at core.column_names j) (slice_index_or run.program.columns j no_column))
 
 -- row i: its name, its stage, and the power of ten by which its numbers were multiplied
 abbrev pub row_line : Core → Run → List ℕ → ℕ → List ℕ
@@ -57,18 +59,22 @@ limits_line core s i limits =
 -- scenario s, and the limits of each row in it
 abbrev pub scenario_lines_of : Core → Run → ℕ → List (List ℕ)
 scenario_lines_of core run s =
-    scenario_line run s ∷ map (λ i. limits_line core s i (limits_in run s i)) (range_with_len 0 (length run.program.rows))
+    scenario_line run s ∷ map (λ i. limits_line core s i (limits_in run s i))
+        (range_with_len 0 (length run.program.rows))
 
 -- all columns, and all rows
 abbrev pub column_lines_of : Core → Run → List (List ℕ)
-column_lines_of core run = map (column_line core run) (range_with_len 0 (length run.program.columns))
+column_lines_of core run =
+  map (column_line core run) (range_with_len 0 (length run.program.columns))
 
 abbrev pub row_lines_of : Core → Run → List ℕ → List (List ℕ)
-row_lines_of core run places = map (row_line core run places) (range_with_len 0 (length run.program.rows))
+row_lines_of core run places =
+  map (row_line core run places) (range_with_len 0 (length run.program.rows))
 
 -- all scenarios, those of one after those of another
 abbrev pub all_scenario_lines : Core → Run → List (List ℕ)
-all_scenario_lines core run = flat_map (scenario_lines_of core run) (range_with_len 0 (length run.program.scenarios))
+all_scenario_lines core run =
+  flat_map (scenario_lines_of core run) (range_with_len 0 (length run.program.scenarios))
 
 -- all of it, with the places of the rows' powers of ten
 abbrev pub show_lines_of : Core → Run → List ℕ → List (List ℕ)

@@ -55,7 +55,8 @@ pub fn put_name(
     names: &Names,
     number: u32,
 ) -> Result<(), AllocError>
-    ensures { OnOk result (line.new.items ≡ line.old.items ++ word.now ++ name_at names.now number) }
+    ensures { OnOk result (line.new.items
+        ≡ line.old.items ++ word.now ++ name_at names.now number) }
 {
     line.extend_from_slice(word)?;
     line.extend_from_slice(name_at(names, number))

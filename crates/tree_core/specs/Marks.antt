@@ -1,4 +1,5 @@
--- The tree of marks: two scenarios share a node of a stage exactly where their marks at the stage are equal.
+-- The tree of marks: two scenarios share a node of a stage exactly where their marks at the stage
+-- are equal.
 
 use Rattle.std.specs.Prelude.{◌≡◌, ℕ, ◌+◌, ◌-◌, ◌<◌, ◌≤◌, ◌==◌, Bool, not, List, [], length, map, slice_index_or}
 use Rattle.std.specs.List.{filter, flat_map, list_any, range_with_len}
@@ -35,9 +36,12 @@ nodes_at owners t = map (node t) (groups (mark_of owners t) (length owners))
 
 -- the tree of these marks
 unfoldable pub tree_of : ℕ → List (List ℕ) → Tree
-tree_of stages owners = record { stages = stages; nodes = flat_map (nodes_at owners) (range_with_len 1 stages) }
+tree_of stages owners = record { stages = stages;
+  nodes = flat_map (nodes_at owners) (range_with_len 1 stages) }
 
 -- equal marks at a stage are equal at the stage before
 abbrev pub AreNested : ℕ → List (List ℕ) → Type 0
 AreNested stages owners =
-    (t s u : ℕ) → 1 ≤ t → t < stages → s < length owners → u < length owners → mark_of owners (t + 1) s ≡ mark_of owners (t + 1) u → mark_of owners t s ≡ mark_of owners t u
+    (t s u : ℕ) → 1 ≤ t → t < stages → s < length owners → u < length owners
+        → mark_of owners (t + 1) s ≡ mark_of owners (t + 1) u
+        → mark_of owners t s ≡ mark_of owners t u

@@ -1,4 +1,5 @@
--- What a list of nodes says: which scenarios stand at a stage, which share a node, and which node has a scenario.
+-- What a list of nodes says: which scenarios stand at a stage, which share a node, and which node
+-- has a scenario.
 
 use Rattle.std.specs.Prelude.{◌≡◌, ◌↔◌, ℕ, ◌+◌, ◌<◌, ◌≤◌, ◌==◌, ◌&&◌, Bool, List, [], length, Option, slice_index_or, position, Contains}
 use Rattle.std.specs.List.{All, AllPairs, Any, count_by, filter, flat_map, list_any, position_or_len}
@@ -43,7 +44,8 @@ StandsOnce nodes t s = count_by (λ u. u == s) (members nodes t) ≡ 1
 
 -- scenarios s and u share a node of stage t
 abbrev pub Share : List Node → ℕ → ℕ → ℕ → Type 0
-Share nodes s u t = Any (λ (n : Node). (n.stage ≡ t) × Contains n.scenarios s × Contains n.scenarios u) nodes
+Share nodes s u t =
+  Any (λ (n : Node). (n.stage ≡ t) × Contains n.scenarios s × Contains n.scenarios u) nodes
 
 -- a node of these stages and of some of n scenarios, in ascending order
 pub record IsNode (stages count : ℕ) (n : Node) : Type 0 where

@@ -24,11 +24,13 @@ pub fn tree_of_marks()
 /// a node stand in one node of the stage before.
 pub fn nested_marks()
     ensures { (stages : ℕ) (owners : List (List ℕ)) →
-        AreNested stages owners → AreNestedNodes stages (length owners) (tree_of stages owners).nodes }
+        AreNested stages owners → AreNestedNodes stages (length owners)
+            (tree_of stages owners).nodes }
 {}
 
 /// A scenario that stands once at a stage is in a node of that stage, so that
 /// `node_of` may be asked for it.
 pub fn node_is_found()
-    ensures { (nodes : List Node) (t s : ℕ) → StandsOnce nodes t s → IsSome (node_number nodes s t) }
+    ensures { (nodes : List Node) (t s : ℕ) → StandsOnce nodes t s
+        → IsSome (node_number nodes s t) }
 {}

@@ -11,14 +11,16 @@ use Rattle.wait_and_see.specs.declared.fault.WaitFault.TheVariants.{Infeasible, 
 abbrev pub AllHavePoints : Run → Type 0
 AllHavePoints run = HavePoints run (scenarios run)
 
--- the budget of boxes was used up in scenario s, which the plain search can't solve within it either, and each earlier one has a feasible point
+-- the budget of boxes was used up in scenario s, which the plain search can't solve within it
+-- either, and each earlier one has a feasible point
 pub record IsSpent (run : Run) (s opened : ℕ) : Type 0 where
   pub there : s < scenarios run
   pub all : opened ≡ run.options.budget
   pub more : run.options.budget < ref_count (problem_in run s)
   pub before : HavePoints run s
 
--- the answer is the wait-and-see bound, or the first scenario without a feasible point, or one that used up its budget; want of memory is free
+-- the answer is the wait-and-see bound, or the first scenario without a feasible point, or one that
+-- used up its budget; want of memory is free
 abbrev pub WaitAnswers : Run → Result ℤ WaitFault → Type 0
 WaitAnswers run (Ok bound) = wait_and_see_of run ≡ Some bound
 WaitAnswers run (Err (Infeasible scenario)) = IsFirstInfeasible run scenario

@@ -19,7 +19,8 @@ HasPut w k v = (closed : List ℕ) × OwnsOne v w closed × (last_of closed ≤ 
 abbrev pub IsPutting : ℕ → ℕ → ℕ → View → Type 0
 IsPutting w k c v = (closed : List ℕ) × OwnsOne v w closed × (v.pending ≡ Some (pending (k + 1) c))
 
--- it has made so many steps of the put of entry k + 1: one opens it, one puts each word, one closes it
+-- it has made so many steps of the put of entry k + 1: one opens it, one puts each word, one closes
+-- it
 pub record WritesAt (width w k step : ℕ) (v : View) : Type 0 where
   pub before : step ≡ 0 → HasPut w k v
   pub between : (c : ℕ) → step ≡ c + 1 → c ≤ width → IsPutting w k c v
@@ -46,8 +47,10 @@ entry_of t w k = replicate t.width k
 abbrev pub IsReadAt : PlainValue Tiny → Reader → Type 0
 IsReadAt b s = ReadsFor (entry_of b.0) (λ w. b.0.width) b.0.windows (viewed b 0) s
 
--- two leaders' windows of one width, up to three puts of each, and a reader of both: each writer has closed so many entries, and made so many steps of the next
-pub record IsBench (b : PlainValue Tiny) (s : Reader) (lasts steps : List ℕ) (width : ℕ) : Type 0 where
+-- two leaders' windows of one width, up to three puts of each, and a reader of both: each writer
+-- has closed so many entries, and made so many steps of the next
+pub record IsBench (b : PlainValue Tiny) (s : Reader) (lasts steps : List ℕ)
+  (width : ℕ) : Type 0 where
   pub windows : b.0.windows ≡ 2
   pub leaders : b.0.leaders ≡ 2
   pub wide : width ≡ b.0.width
@@ -55,5 +58,6 @@ pub record IsBench (b : PlainValue Tiny) (s : Reader) (lasts steps : List ℕ) (
   pub most : b.0.most ≡ 3
   pub ranks : length s.parts ≡ 2
   pub made : (w : ℕ) → w < 2 → (slice_index lasts w ≤ 3) × (slice_index steps w < width + 2)
-  pub writes : (w : ℕ) → w < 2 → WritesAt width w (slice_index lasts w) (slice_index steps w) (viewed b (w + 1))
+  pub writes : (w : ℕ) → w < 2
+      → WritesAt width w (slice_index lasts w) (slice_index steps w) (viewed b (w + 1))
   pub reads : IsReadAt b s

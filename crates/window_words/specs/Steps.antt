@@ -17,7 +17,8 @@ known of v = record { of = Some of; view = v }
 module _ {M : Type 0} where
   -- the seat knows what the call adds, and nothing else is changed
   abbrev pub Gains : ℕ → Call → ℕ → Me ℕ (Known M) → Me ℕ (Known M) → Type 0
-  Gains leaders call n m m' = m' ≡ (record { of = m.0.of; view = after leaders call n m.0.view }, m.1)
+  Gains leaders call n m m' =
+      m' ≡ (record { of = m.0.of; view = after leaders call n m.0.view }, m.1)
 
   -- a store of an odd stamp tells which entry is opened
   abbrev pub opens : Step ℕ → Me ℕ (Known M) → ℕ → Me ℕ (Known M) → Type 0
@@ -32,19 +33,26 @@ module _ {M : Type 0} where
   -- a load of a window's stamp tells which window it is
   abbrev pub begins : (M → ℕ → ℕ) → Step ℕ → Me ℕ (Known M) → ℕ → Me ℕ (Known M) → Type 0
   begins wide st m n m' =
-      (of : M) (w : ℕ) → m.0.of ≡ Some of → st.word ≡ start (wide of) w → Gains 0 (Begin w) n m m' × AcceptedBelow m.0.view w n × OwnStamp m.0.view w n × AcceptedOwn m.0.view w
+      (of : M) (w : ℕ) → m.0.of ≡ Some of → st.word ≡ start (wide of) w
+          → Gains 0 (Begin w) n m m' × AcceptedBelow m.0.view w n × OwnStamp m.0.view w n
+          × AcceptedOwn m.0.view w
 
   abbrev pub reads : Step ℕ → Me ℕ (Known M) → ℕ → Me ℕ (Known M) → Type 0
   reads st m n m' = Gains 0 (Read 0) n m m'
 
-  -- where a reading ends at the even stamp of entry k that it began at, and all words are read, they are the entry's
+  -- where a reading ends at the even stamp of entry k that it began at, and all words are read,
+  -- they are the entry's
   abbrev pub IsEntry : (M → ℕ → ℕ → List ℕ) → (M → ℕ → ℕ) → (M → ℕ) → M → ℕ → Reading → Type 0
   IsEntry entry wide last of n r =
-      (k : ℕ) → 1 ≤ k → r.first ≡ 2 * k → n ≡ r.first → (k ≤ last of) × (length r.words ≡ wide of r.window → r.words ≡ entry of r.window k)
+      (k : ℕ) → 1 ≤ k → r.first ≡ 2 * k → n ≡ r.first
+          → (k ≤ last of) × (length r.words ≡ wide of r.window → r.words ≡ entry of r.window k)
 
-  abbrev pub ends : (M → ℕ → ℕ → List ℕ) → (M → ℕ → ℕ) → (M → ℕ) → (M → ℕ) → Step ℕ → Me ℕ (Known M) → ℕ → Me ℕ (Known M) → Type 0
+  abbrev pub ends : (M → ℕ → ℕ → List ℕ) → (M → ℕ → ℕ) → (M → ℕ) → (M → ℕ) → Step ℕ → Me ℕ (Known M)
+      → ℕ → Me ℕ (Known M) → Type 0
   ends entry wide lead last st m n m' =
-      (of : M) (r : Reading) → m.0.of ≡ Some of → m.0.view.reading ≡ Some r → Gains (lead of) (End r.window) n m m' × IsEntry entry wide last of n r × IsBehindOwn (lead of) m.0.view r.window n
+      (of : M) (r : Reading) → m.0.of ≡ Some of → m.0.view.reading ≡ Some r
+          → Gains (lead of) (End r.window) n m m' × IsEntry entry wide last of n r
+          × IsBehindOwn (lead of) m.0.view r.window n
 
   abbrev pub stops : Step ℕ → Me ℕ (Known M) → ℕ → Me ℕ (Known M) → Type 0
   stops st m n m' = Gains 0 (Stop st.first) 0 m m'

@@ -75,8 +75,10 @@ pub trait Board {
         requires { HasReadAll (Self.Of.wide (of self.old)) (view self.old) window }
         ensures leaves { leaves self.old (End window) result self.new }
         ensures same { of self.new ≡ of self.old }
-        ensures view { HasEnded (Self.Of.lead (of self.old)) result (view self.old) (view self.new) }
-        ensures whole { IsEntryWhole Self.Of.entry Self.Of.last (of self.old) (view self.old) window result };
+        ensures view { HasEnded (Self.Of.lead (of self.old)) result (view self.old)
+            (view self.new) }
+        ensures whole { IsEntryWhole Self.Of.entry Self.Of.last (of self.old) (view self.old) window
+            result };
 
     /// Stores the number with which the hub's seat stops, once.
     fn stop(&mut self, last: u64)
