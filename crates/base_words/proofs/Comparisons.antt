@@ -1,6 +1,6 @@
 -- what tests on numbers say, and tests joined by `&&`
 
-use Rattle.std.proofs.Common.{arith, refl, ◌≡◌, Bool, true, false, ◌&&◌, ℤ, ◌≤ℤ◌, ◌<ℤ◌, int_lt, int_le}
+use Rattle.std.proofs.Common.{arith, refl, ◌≡◌, Bool, true, false, not, ◌&&◌, ℤ, ◌≤ℤ◌, ◌<ℤ◌, int_lt, int_le}
 use Rattle.std.proofs.lemmas.Int.{ints}
 
 pub below_from_test : (a b : ℤ) → int_lt a b ≡ true → a <ℤ b
@@ -20,6 +20,10 @@ most_from_test a b h = grind (arith, ints)
 
 pub test_from_most : (a b : ℤ) → a ≤ℤ b → int_le a b ≡ true
 test_from_most a b h = grind (arith, ints)
+
+pub not_not : (t : Bool) → not t ≡ false → t ≡ true
+not_not true h = refl
+not_not false h = absurd cc
 
 -- both parts of a test
 pub both_left : (p q : Bool) → (p && q) ≡ true → p ≡ true

@@ -6,4 +6,5 @@ pub mod ListSumsByNumber
 pub mod Made
 pub mod Magnitudes
 pub mod Products
+pub mod Quotients
 pub mod SumBounds

@@ -19,7 +19,7 @@ use Rattle.boxed_problem.specs.declared.parts.Best.{Best}
 use Rattle.boxed_problem.specs.declared.parts.Entry.{Entry}
 use Rattle.boxed_problem.specs.declared.parts.Limits.{Limits}
 use Rattle.boxed_problem.specs.declared.parts.Side.{Side}
-use Rattle.base_words.proofs.Comparisons.{above_from_test, both, both_left, both_right, most_from_test, test_from_above, test_from_most}
+use Rattle.base_words.proofs.Comparisons.{above_from_test, both, both_left, both_right, most_from_test, not_not, test_from_above, test_from_most}
 use Rattle.branch_bound.proofs.HalfLaws.{Cut, after, cut_of, filled_cut, here}
 use Rattle.boxed_problem.proofs.Least.{best_after}
 use Rattle.safe_bound.proofs.LeastLaws.{least_on-holds, least_on-le, sum_below-order}
@@ -58,10 +58,6 @@ above_wider (Some l) a b h e = let k = most_from_test l a e in test_from_most l 
 below_wider : (o : Option ℤ) (a b : ℤ) → a ≤ℤ b → is_below o b ≡ true → is_below o a ≡ true
 below_wider None a b h e = refl
 below_wider (Some u) a b h e = let k = most_from_test b u e in test_from_most a u (omega (arith, ints))
-
-pub not_not : (t : Bool) → not t ≡ false → t ≡ true
-not_not true e = refl
-not_not false e = absurd cc
 
 misses_wider : (limits : Limits) (low high down up : ℤ) → down ≤ℤ low → high ≤ℤ up → misses limits low high ≡ false → misses limits down up ≡ false
 misses_wider limits low high down up h k e =

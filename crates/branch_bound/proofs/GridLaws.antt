@@ -13,6 +13,7 @@ use Rattle.boxed_problem.proofs.Listing.{corner_on, on_in}
 use Rattle.base_words.specs.Sums.{number_at, sum_below}
 use Rattle.boxed_problem.specs.declared.parts.Side.{Side}
 use Rattle.base_words.proofs.Comparisons.{most_from_test}
+use Rattle.base_words.proofs.Quotients.{floor_is}
 use Rattle.base_words.proofs.Products.{sum_times, times_one, times_order, times_sum, zero_times}
 use Rattle.branch_bound.specs.ValueGrid.{AllStep, Apart, HasStep, IsGrid, IsMultiple}
 use Rattle.safe_bound.proofs.PriceLaws.{times_assoc}
@@ -101,13 +102,6 @@ grid_of_ones b base = record { positive = omega (arith, ints); apart = λ x h. (
   where
     one_times : (z : ℤ) → (pos 1 *ℤ z) ≡ z
     one_times z = *ℤ_comm (pos 1) z ∙ times_one z
-
-quotient : (a b : ℕ) → 0 < b → ((a / b) * b ≤ a) × (a < (a / b) * b + b)
-quotient a b h = (grind arith, grind arith)
-
-floor_is : (a : ℤ) (b : ℕ) → 0 < b → ((int_div_euclid a (pos b) *ℤ pos b) ≤ℤ a) × (a <ℤ ((int_div_euclid a (pos b) *ℤ pos b) +ℤ pos b))
-floor_is (pos a) b h = let d = quotient a b h in (omega (arith, ints), omega (arith, ints))
-floor_is (negsuc a) b h = let d = quotient a b h in (omega (arith, ints), omega (arith, ints))
 
 -- a number of the grid that is at most another is at most the greatest of the grid that is
 pub at_most_floor : (step base top v : ℤ) → pos 1 ≤ℤ step → Apart step v base → v ≤ℤ top → v ≤ℤ (base +ℤ (step *ℤ int_div_euclid (top -ℤ base) step))

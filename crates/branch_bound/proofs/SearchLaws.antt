@@ -23,7 +23,7 @@ use Rattle.boxed_problem.proofs.Listing.{corner_on}
 use Rattle.boxed_problem.proofs.Lying.{Lies, on_lies}
 use Rattle.boxed_problem.proofs.Members.{listed_on}
 use Rattle.propagate.proofs.RangeLaws.{either_left, either_right, rows_not_missed, single_met}
-use Rattle.base_words.proofs.Comparisons.{above_from_test, test_from_above}
+use Rattle.base_words.proofs.Comparisons.{above_from_test, not_not, test_from_above}
 
 -- two searches that agree on the halves go on alike
 go_on-same : (f g : List Side → Progress → Progress) (b : Problem) (box : List Side) (o : Option Halves) (p : Progress) →
@@ -109,10 +109,6 @@ single_taken b box best f s e =
     let low = not_not (improves (least_value b box) best) (either_right (misses_one (length b.rows) b.rows b.entries box) (not (improves (least_value b box) best)) e) in
     let value = ap (λ v. improves v best) (sym (single_least b box s)) ∙ low in
     ap (λ ps. best_after b best ps) (points_single box s) ∙ (ap (λ t. if t && improves (value_of b (corner box)) best then Some (priced b (corner box)) else best) met ∙ ap (λ t. if t then Some (priced b (corner box)) else best) value)
-  where
-    not_not : (t : Bool) → not t ≡ false → t ≡ true
-    not_not true h = refl
-    not_not false h = absurd cc
 
 -- the search of a box goes on to the best after all its points
 go_on-best : (g : List Side → Progress → Progress) (b : Problem) (box : List Side) (o : Option Halves) (p : Progress) → halves box ≡ o → Filled box → is_pruned b box p.best ≡ false →

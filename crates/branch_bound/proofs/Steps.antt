@@ -11,7 +11,7 @@ use Rattle.propagate.specs.Ranges.{misses_one}
 use Rattle.boxed_problem.specs.Sides.{Within, corner}
 use Rattle.boxed_problem.specs.declared.parts.Best.{Best}
 use Rattle.boxed_problem.specs.declared.parts.Side.{Side}
-use Rattle.base_words.proofs.Comparisons.{above_from_test, below_from_test, test_from_below}
+use Rattle.base_words.proofs.Comparisons.{above_from_test, below_from_test, not_not, test_from_below}
 use Rattle.boxed_problem.proofs.Lying.{Single}
 use Rattle.safe_bound.proofs.LeastLaws.{single_least}
 use Rattle.boxed_problem.proofs.Listing.{corner_on, in_on}
@@ -61,10 +61,6 @@ point_falls b best box s e v d =
     let low = not_not (improves (least_value b box) best) (either_right (misses_one (length b.rows) b.rows b.entries box) (not (improves (least_value b box) best)) e) in
     lower best v (value_of b (corner box)) (below_from_test v (value_of b (corner box)) d) (ap (λ z. improves z best) (sym (single_least b box s)) ∙ low)
   where
-    not_not : (t : Bool) → not t ≡ false → t ≡ true
-    not_not true h = refl
-    not_not false h = absurd cc
-
     lower : (best : Option Best) (v w : ℤ) → v <ℤ w → improves w best ≡ true → improves v best ≡ true
     lower None v w l h = refl
     lower (Some r) v w l h = let k = below_from_test w r.value h in test_from_below v r.value (omega (arith, ints))

@@ -8,17 +8,11 @@ use Rattle.boxed_problem.specs.Sides.{reach}
 use Rattle.boxed_problem.specs.declared.parts.Side.{Side}
 use Rattle.base_words.proofs.Comparisons.{above_from_test, below_from_test}
 use Rattle.base_words.proofs.Magnitudes.{fits_from_abs}
+use Rattle.base_words.proofs.Quotients.{floor_is}
 use Rattle.base_words.proofs.Products.{sum_times, times_one, times_order, times_sum, times_turn, zero_times}
 use Rattle.boxed_problem.proofs.Narrower.{numbers_small}
 use Rattle.propagate.specs.Ranged.{high_end, low_end}
 use Rattle.propagate.specs.Tightening.{IsSteps}
-
-quotient : (a b : ℕ) → 0 < b → ((a / b) * b ≤ a) × (a < (a / b) * b + b)
-quotient a b h = (grind arith, grind arith)
-
-floor_is : (a : ℤ) (b : ℕ) → 0 < b → ((int_div_euclid a (pos b) *ℤ pos b) ≤ℤ a) × (a <ℤ ((int_div_euclid a (pos b) *ℤ pos b) +ℤ pos b))
-floor_is (pos a) b h = let d = quotient a b h in (omega (arith, ints), omega (arith, ints))
-floor_is (negsuc a) b h = let d = quotient a b h in (omega (arith, ints), omega (arith, ints))
 
 -- the quotient is how many steps a slack allows
 pub steps_are : (size slack extent : ℤ) → pos 0 <ℤ size → pos 0 ≤ℤ slack → slack <ℤ (size *ℤ extent) → IsSteps size slack extent (int_div_euclid slack size)

@@ -16,7 +16,7 @@ use Rattle.boxed_problem.specs.declared.parts.Side.{Side}
 use Rattle.boxed_problem.proofs.Lying.{Single, single_at}
 use Rattle.boxed_problem.proofs.Lying.{Lies, within_reach}
 use Rattle.base_words.proofs.Products.{times_between}
-use Rattle.base_words.proofs.Comparisons.{both, both_left, both_right, most_from_test, test_from_most}
+use Rattle.base_words.proofs.Comparisons.{both, both_left, both_right, most_from_test, not_not, test_from_most}
 
 -- sums of parts in order are in order
 pub fold_order : {E : Type 0} (f g : E → ℤ) → ((e : E) → f e ≤ℤ g e) → (a b : ℤ) (es : List E) → a ≤ℤ b → fold (λ s e. s +ℤ f e) a es ≤ℤ fold (λ s e. s +ℤ g e) b es
@@ -54,10 +54,6 @@ met_not_missed limits low high a h k e =
     ap not (both (is_above limits.lower high) (is_below limits.upper low)
     (above_more limits.lower a high k (both_left (is_above limits.lower a) (is_below limits.upper a) e))
     (below_less limits.upper low a h (both_right (is_above limits.lower a) (is_below limits.upper a) e)))
-
-not_not : (t : Bool) → not t ≡ false → t ≡ true
-not_not true e = refl
-not_not false e = absurd cc
 
 -- a range of one number that doesn't miss the limits meets them
 pub not_missed_met : (limits : Limits) (low high a : ℤ) → low ≤ℤ a → a ≤ℤ high → high ≤ℤ low → misses limits low high ≡ false → meets limits a ≡ true

@@ -16,7 +16,7 @@ use Rattle.boxed_problem.specs.declared.parts.Entry.{Entry}
 use Rattle.boxed_problem.specs.declared.parts.Limits.{Limits}
 use Rattle.propagate.specs.declared.range.Range.{Range}
 use Rattle.boxed_problem.specs.declared.parts.Side.{Side}
-use Rattle.base_words.proofs.Comparisons.{both_left, both_right, most_from_test}
+use Rattle.base_words.proofs.Comparisons.{both_left, both_right, most_from_test, not_not}
 use Rattle.boxed_problem.proofs.FixingLaws.{set_within}
 use Rattle.boxed_problem.proofs.Listing.{in_on}
 use Rattle.boxed_problem.proofs.Lying.{filled_at, on_lies, side_reach, within_at, within_self, within_trans}
@@ -116,10 +116,6 @@ range_small m t s i l =
 
 activity_small : (columns : List Side) (entries : List Entry) (sides : List Side) (i : ℕ) → Within sides columns → sum_by (entry_size columns i) entries ≤ 2 ^ 122 → (unsigned_abs (low_activity entries sides i) ≤ 2 ^ 122) × (unsigned_abs (high_activity entries sides i) ≤ 2 ^ 122)
 activity_small columns entries sides i w fit = range_within columns entries sides i (record { low = low_activity entries sides i; high = high_activity entries sides i }) (inside_of sides columns w) fit (record { low = refl; high = refl })
-
-not_not : (t : Bool) → not t ≡ false → t ≡ true
-not_not true e = refl
-not_not false e = absurd cc
 
 -- a range that doesn't miss the limits
 pub below_upper : (limits : Limits) (low high u : ℤ) → misses limits low high ≡ false → limits.upper ≡ Some u → low ≤ℤ u

@@ -8,6 +8,7 @@ use Rattle.safe_bound.specs.Leasts.{IsLeastAt, IsNearest, IsVertex}
 use Rattle.boxed_problem.specs.Objective.{curve}
 use Rattle.boxed_problem.specs.Sides.{reach}
 use Rattle.boxed_problem.specs.declared.parts.Side.{Side}
+use Rattle.base_words.proofs.Quotients.{floor_is}
 use Rattle.base_words.proofs.Products.{square_next, times_one, times_order, times_sum, times_turn, zero_times}
 use Rattle.base_words.proofs.Comparisons.{above_from_test, below_from_test}
 
@@ -48,14 +49,6 @@ falls line k v h (suc n) y z l e =
     let s = curve_next line (pos k) z in
     let o = times_one (pos k) in
     omega (arith, ints, r, t, d, s, o, h.low, h.high)
-
-quotient : (a b : ℕ) → 0 < b → ((a / b) * b ≤ a) × (a < (a / b) * b + b)
-quotient a b h = (grind arith, grind arith)
-
--- the rounded-down quotient
-floor_is : (a : ℤ) (b : ℕ) → 0 < b → ((int_div_euclid a (pos b) *ℤ pos b) ≤ℤ a) × (a <ℤ ((int_div_euclid a (pos b) *ℤ pos b) +ℤ pos b))
-floor_is (pos a) b h = let d = quotient a b h in (omega (arith, ints), omega (arith, ints))
-floor_is (negsuc a) b h = let d = quotient a b h in (omega (arith, ints), omega (arith, ints))
 
 pub vertex_is : (line : ℤ) (k : ℕ) → 0 < k → IsVertex line (pos k) (int_div_euclid (pos k -ℤ line) (pos k +ℤ pos k))
 vertex_is line k h =

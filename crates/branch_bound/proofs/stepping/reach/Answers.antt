@@ -3,7 +3,7 @@ use Rattle.boxed_problem.specs.Data.{problem_of}
 use Rattle.branch_bound.specs.PlainSearch.{is_pruned}
 use Rattle.branch_bound.specs.Frames.{node_of}
 use Rattle.propagate.specs.Trails.{sides_at}
-use Rattle.branch_bound.proofs.Descending.{not_not}
+use Rattle.base_words.proofs.Comparisons.{not_not}
 use Rattle.branch_bound.proofs.Steps.{pruned_none, none_kept}
 use Rattle.branch_bound.proofs.FrameLaws.{frame_inside}
 use Rattle.branch_bound.proofs.stepping.reach.Goals as goal
