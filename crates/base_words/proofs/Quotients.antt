@@ -8,7 +8,7 @@ quotient a b h = (grind arith, grind arith)
 
 -- it is the greatest number whose product is at most the dividend
 pub floor_is : (a : ℤ) (b : ℕ) → 0 < b
-  → ((int_div_euclid a (pos b) *ℤ pos b) ≤ℤ a)
-  × (a <ℤ ((int_div_euclid a (pos b) *ℤ pos b) +ℤ pos b))
+    → ((int_div_euclid a (pos b) *ℤ pos b) ≤ℤ a)
+    × (a <ℤ ((int_div_euclid a (pos b) *ℤ pos b) +ℤ pos b))
 floor_is (pos a) b h = let d = quotient a b h in (omega (arith, ints), omega (arith, ints))
 floor_is (negsuc a) b h = let d = quotient a b h in (omega (arith, ints), omega (arith, ints))

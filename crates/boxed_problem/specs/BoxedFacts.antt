@@ -27,17 +27,17 @@ entry_at entries k = slice_index_or entries k no_entry
 abbrev pub column_size : List Side → List ℤ → List ℤ → ℕ → ℕ
 column_size columns line square j =
     unsigned_abs (number_at line j) * reach (side_at columns j) + unsigned_abs (number_at square j)
-        * (reach (side_at columns j) * reach (side_at columns j))
+    * (reach (side_at columns j) * reach (side_at columns j))
 
 -- the magnitude of the constant and the parts of all columns
 abbrev pub value_size : List Side → ℤ → List ℤ → List ℤ → ℕ
 value_size columns constant line square =
-  unsigned_abs constant + size_below (length columns) (column_size columns line square)
+    unsigned_abs constant + size_below (length columns) (column_size columns line square)
 
 -- an entry's part in row i's activity, at any point of the box, has at most this magnitude
 abbrev pub entry_size : List Side → ℕ → Entry → ℕ
 entry_size columns i e =
-  if e.row == i then unsigned_abs e.value * reach (side_at columns e.column) else 0
+    if e.row == i then unsigned_abs e.value * reach (side_at columns e.column) else 0
 
 -- the magnitude of a limit, 0 where there is none
 abbrev pub limit_size : Option ℤ → ℕ
@@ -51,7 +51,7 @@ limits_size limits = max (limit_size limits.lower) (limit_size limits.upper)
 -- the magnitude of row i's limits and the parts of all its entries
 abbrev pub row_size : List Side → List Limits → List Entry → ℕ → ℕ
 row_size columns rows entries i =
-  limits_size (limits_at rows i) + sum_by (entry_size columns i) entries
+    limits_size (limits_at rows i) + sum_by (entry_size columns i) entries
 
 -- ascending by column, and by row within a column
 abbrev pub ComesBefore : Entry → Entry → Type 0
@@ -59,7 +59,7 @@ ComesBefore e f = (e.column ≤ f.column) × (e.column ≡ f.column → e.row < 
 
 -- the facts that a problem keeps
 pub record IsBoxed (columns : List Side) (rows : List Limits) (entries : List Entry) (constant : ℤ)
-  (line square : List ℤ) : Type 0 where
+    (line square : List ℤ) : Type 0 where
   pub lines : length line ≡ length columns
   pub squares : length square ≡ length columns
   pub filled : All (λ s. s.lower ≤ℤ s.upper) columns

@@ -16,5 +16,11 @@ pub record Problem : Type 0 where
 
 -- the data of a Boxed
 abbrev pub problem_of : Boxed → Problem
-problem_of b = record { columns = b.columns; rows = b.rows; entries = b.entries;
-  constant = b.constant; line = b.line; square = b.square }
+problem_of b = record {
+  columns = b.columns;
+  rows = b.rows;
+  entries = b.entries;
+  constant = b.constant;
+  line = b.line;
+  square = b.square;
+}

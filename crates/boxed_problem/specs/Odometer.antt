@@ -26,7 +26,7 @@ next_point (s ∷ ss) (v ∷ x) = next_with s ss v (next_point ss x)
 -- the points whose first value is above v
 abbrev pub points_above : Side → List Side → ℤ → List (List ℤ)
 points_above s ss v = flat_map (λ w. map (λ x. w ∷ x) (box_points ss))
-  (run_from (v +ℤ pos 1) (count_to (s.upper -ℤ (v +ℤ pos 1))))
+    (run_from (v +ℤ pos 1) (count_to (s.upper -ℤ (v +ℤ pos 1))))
 
 -- the points of a box from x on
 abbrev pub points_from : List Side → List ℤ → List (List ℤ)

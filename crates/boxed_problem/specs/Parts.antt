@@ -7,7 +7,7 @@ use Rattle.boxed_problem.specs.declared.problem.Boxed.{Boxed}
 
 -- the problem has these parts
 pub record HasParts (b : Boxed) (sides : List Side) (limits : List Limits) (cells : List Entry)
-  (base : ℤ) (slopes bends : List ℤ) : Type 0 where
+    (base : ℤ) (slopes bends : List ℤ) : Type 0 where
   pub columns : b.columns ≡ sides
   pub rows : b.rows ≡ limits
   pub entries : b.entries ≡ cells

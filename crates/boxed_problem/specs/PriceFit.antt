@@ -14,12 +14,12 @@ pub record HasSign (limits : Limits) (price : ℤ) : Type 0 where
 -- the magnitude of row i's price times that of the row
 abbrev pub price_part : Problem → Prices → ℕ → ℕ
 price_part b prices i =
-  unsigned_abs (number_at prices.values i) * row_size b.columns b.rows b.entries i
+    unsigned_abs (number_at prices.values i) * row_size b.columns b.rows b.entries i
 
 -- the scale times the objective's magnitude, and each price's times its row's
 abbrev pub price_size : Problem → Prices → ℕ
 price_size b prices = unsigned_abs prices.scale * value_size b.columns b.constant b.line b.square
-  + size_below (length b.rows) (price_part b prices)
+    + size_below (length b.rows) (price_part b prices)
 
 -- the prices fit the problem
 pub record FitsPrices (b : Problem) (prices : Prices) : Type 0 where

@@ -32,4 +32,4 @@ meets limits a = is_above limits.lower a && is_below limits.upper a
 abbrev pub meets_rows : ℕ → List Limits → List Entry → List ℤ → Bool
 meets_rows zero rows entries x = true
 meets_rows (suc n) rows entries x =
-  meets_rows n rows entries x && meets (limits_at rows n) (activity entries x n)
+    meets_rows n rows entries x && meets (limits_at rows n) (activity entries x n)

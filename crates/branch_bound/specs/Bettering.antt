@@ -29,7 +29,7 @@ pub record Narrows (b : Problem) (best : Option Best) (old new : Trail) : Type 0
 -- the scale times each value below the best so far is at most a number
 abbrev pub IsMost : Problem → Option Best → ℤ → ℤ → Type 0
 IsMost b best scale most = (x : List ℤ) → InBox b.columns x → improves (value_of b x) best ≡ true
-  → (scale *ℤ value_of b x) ≤ℤ most
+    → (scale *ℤ value_of b x) ≤ℤ most
 
 -- the scale times each value below the best so far is at most a slack above a total
 pub record IsSlack (b : Problem) (best : Option Best) (scale total slack : ℤ) : Type 0 where
@@ -47,7 +47,7 @@ pub record KeepsSlack (line square : ℤ) (side : Side) (slack : ℤ) (new : Sid
 -- prices that fit a problem, the problem's own objective and the one that prices reduce, which stay
 -- under the problem's, and the grid of its values
 pub record IsPricing (b : Problem) (prices : Prices) (plain priced : Reduced)
-  (grid : Grid) : Type 0 where
+    (grid : Grid) : Type 0 where
   pub fit : FitsPrices b prices
   pub plain_under : IsUnder b plain
   pub priced_under : IsUnder b priced

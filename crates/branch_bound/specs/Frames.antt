@@ -40,8 +40,10 @@ tree_box (t ∷ columns) (s ∷ sides) (suc j) side = s ∷ tree_box columns sid
 
 -- what two sides have in common
 abbrev pub clip : Side → Side → Side
-clip half side = record { lower = int_max half.lower side.lower;
-  upper = int_min half.upper side.upper }
+clip half side = record {
+  lower = int_max half.lower side.lower;
+  upper = int_min half.upper side.upper;
+}
 
 -- the box of a frame with what the sides at its mark have in it
 abbrev pub node_of : List Side → List Side → Frame → Node
@@ -71,7 +73,7 @@ Chain low (frame ∷ frames) high = (low ≤ frame.mark) × Chain frame.mark fra
 -- the frames stand for boxes that are still to be opened, and their marks rise up to the last one
 -- of the trail
 pub record IsStack (b : Problem) (best : Option Best) (trail : Trail)
-  (frames : List Frame) : Type 0 where
+    (frames : List Frame) : Type 0 where
   pub some : 0 < length trail.marks
   pub chain : Chain 0 frames (length trail.marks - 1)
   pub all : AllByRecursion (IsFrame b best trail) frames
@@ -88,14 +90,16 @@ pub record IsReached (columns sides from : List Side) (place : Place) : Type 0 w
 -- a box that is opened and halved at a place, with the same best so far: the search of its halves
 -- one after another is not past that of the box
 pub record IsHalved (b : Problem) (best : Option Best) (box sides : List Side)
-  (place : Place) : Type 0 where
+    (place : Place) : Type 0 where
   pub column : place.column < length b.columns
   pub single : SingleTo sides place.column
   pub wide : place.side.lower <ℤ place.side.upper
   pub low : (side_at sides place.column).lower ≤ℤ middle place.side
   pub high : middle place.side <ℤ (side_at sides place.column).upper
-  pub node : IsOpen b best (record { whole = tree_box b.columns sides place.column place.side;
-      sides = sides })
+  pub node : IsOpen b best (record {
+    whole = tree_box b.columns sides place.column place.side;
+    sides = sides;
+  })
   pub search : (n : ℕ) → NotPast
       (search b (tree_box b.columns sides place.column (high_half place.side))
       (search b (tree_box b.columns sides place.column (low_half place.side))
@@ -103,10 +107,10 @@ pub record IsHalved (b : Problem) (best : Option Best) (box sides : List Side)
 
 -- what a search did at a box with n boxes opened before: it took its best or left it, or halved it
 abbrev pub IsStep : Problem → Option Best → Option Best → List Side → List Side → Option Place
-  → Type 0
+    → Type 0
 IsStep b old new box sides None = (n : ℕ)
-  → NotPast (record { best = new; opened = n + 1 })
-  (search b box (record { best = old; opened = n }))
+    → NotPast (record { best = new; opened = n + 1 })
+    (search b box (record { best = old; opened = n }))
 IsStep b old new box sides (Some place) = (new ≡ old) × IsHalved b old box sides place
 
 -- a trail whose first and only mark remembers the problem's box

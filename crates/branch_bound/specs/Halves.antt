@@ -30,4 +30,4 @@ abbrev pub halves : List Side → Option Halves
 halves [] = None
 halves (s ∷ ss) =
     if int_lt s.lower s.upper then Some (record { low = low_half s ∷ ss; high = high_half s ∷ ss })
-        else behind s (halves ss)
+    else behind s (halves ss)

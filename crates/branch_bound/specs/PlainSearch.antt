@@ -12,7 +12,7 @@ use Rattle.boxed_problem.specs.Data.{Problem}
 -- a box is pruned where a row's range misses its limits, or its least isn't below the best value
 abbrev pub is_pruned : Problem → List Side → Option Best → Bool
 is_pruned b box best =
-  misses_one (length b.rows) b.rows b.entries box || not (improves (least_value b box) best)
+    misses_one (length b.rows) b.rows b.entries box || not (improves (least_value b box) best)
 
 -- the best point so far, and how many boxes were opened
 pub record Progress : Type 0 where
@@ -26,7 +26,7 @@ with_opened p = record { best = p.best; opened = p.opened + 1 }
 -- what follows where a box isn't pruned: a box of single columns gives a new best point, any other
 -- is searched half by half, the low half first
 abbrev pub go_on : (List Side → Progress → Progress) → Problem → List Side → Option Halves
-  → Progress → Progress
+    → Progress → Progress
 go_on search b box None p = record { best = Some (priced b (corner box)); opened = p.opened }
 go_on search b box (Some h) p = search h.high (search h.low p)
 
@@ -35,7 +35,7 @@ unfoldable pub search_within : ℕ → Problem → List Side → Progress → Pr
 search_within zero b box p = p
 search_within (suc depth) b box p =
     if is_pruned b box p.best then with_opened p
-        else go_on (λ half q. search_within depth b half q) b box (halves box) (with_opened p)
+    else go_on (λ half q. search_within depth b half q) b box (halves box) (with_opened p)
 
 -- how far the upper end is from the lower one
 abbrev pub extent : ℤ → ℕ

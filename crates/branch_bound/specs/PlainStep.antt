@@ -9,4 +9,4 @@ use Rattle.boxed_problem.specs.declared.parts.Side.{Side}
 -- half is searched and then the high one
 abbrev pub opened_then : Problem → List Side → Progress → Progress
 opened_then b box p = if is_pruned b box p.best then with_opened p
-  else go_on (search b) b box (halves box) (with_opened p)
+    else go_on (search b) b box (halves box) (with_opened p)

@@ -18,12 +18,12 @@ Apart step v w = (k : ℤ) × (l : ℤ) × ((v +ℤ (step *ℤ k)) ≡ (w +ℤ (
 -- a column is single, or what it adds at one place and the next differs by multiples of the step
 abbrev pub HasStep : ℤ → ℤ → ℤ → Side → Type 0
 HasStep step line square s =
-  (s.upper ≤ℤ s.lower) ⊎ (IsMultiple step (line +ℤ square) × IsMultiple step (square +ℤ square))
+    (s.upper ≤ℤ s.lower) ⊎ (IsMultiple step (line +ℤ square) × IsMultiple step (square +ℤ square))
 
 -- each column of a problem has the step
 abbrev pub AllStep : Problem → ℤ → Type 0
 AllStep b step = (j : ℕ) → j < length b.columns
-  → HasStep step (number_at b.line j) (number_at b.square j) (side_at b.columns j)
+    → HasStep step (number_at b.line j) (number_at b.square j) (side_at b.columns j)
 
 -- the value at each point of the box is a multiple of the step away from a base
 pub record IsGrid (b : Problem) (base step : ℤ) : Type 0 where

@@ -127,7 +127,7 @@ pub fn walk(columns: &[Side], sides: &[Side], column: usize, half: Side) -> Opti
         (Descends sides.now (tree_box columns.now sides.now column half) sides.now
         × (halves sides.now ≡ None))
         (λ place. IsReached columns.now sides.now (tree_box columns.now sides.now column half)
-            place) }
+        place) }
 {
     let mut at = column;
     let mut side = half;

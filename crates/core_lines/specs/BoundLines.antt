@@ -43,8 +43,8 @@ takes_value line = option_map_or has_value (kind_of line) false
 -- three or four fields with a value, two to four without one
 abbrev pub has_good_count : TextLine → Bool
 has_good_count line = if takes_value line
-  then (nat_le 3 (field_count line) && nat_le (field_count line) 4)
-  else (nat_le 2 (field_count line) && nat_le (field_count line) 4)
+    then (nat_le 3 (field_count line) && nat_le (field_count line) 4)
+    else (nat_le 2 (field_count line) && nat_le (field_count line) 4)
 
 -- whether there is the name of a set, in field 1
 abbrev pub names_set : TextLine → Bool
@@ -158,19 +158,25 @@ speaks_low Binary = true
 abbrev pub bound_for : Option BoundKind → Option ℕ → BoundValue → List Bound
 bound_for None column value = []
 bound_for (Some kind) None value = []
-bound_for (Some kind) (Some column) value = record { column = column; lower = lower_said kind value;
-  upper = upper_said kind value; speaks_low = speaks_low kind } ∷ []
+bound_for (Some kind) (Some column) value = record {
+  column = column;
+  lower = lower_said kind value;
+  upper = upper_said kind value;
+  speaks_low = speaks_low kind;
+} ∷ []
 
 -- what a line says, if it is of the used set
 abbrev pub bounds_in : List (List ℕ) → Option (List ℕ) → TextLine → List Bound
 bounds_in names set line = if is_used set (bound_set line)
-  then bound_for (kind_of line) (number_of (column_word line) names) (bound_value line) else []
+    then bound_for (kind_of line) (number_of (column_word line) names) (bound_value line) else []
 
 -- what the bounds are after one more line, if it is a line of BOUNDS
 abbrev pub bounds_next : Bool → List (List ℕ) → BoundsSaid → TextLine → BoundsSaid
 bounds_next false names said line = said
-bounds_next true names said line = record { set = said.set or Some (bound_set line);
-  bounds = said.bounds ++ bounds_in names said.set line }
+bounds_next true names said line = record {
+  set = said.set or Some (bound_set line);
+  bounds = said.bounds ++ bounds_in names said.set line;
+}
 
 -- whether an earlier line spoke of the lower end of a column's box
 abbrev pub is_lowered : List Bound → ℕ → Bool
@@ -180,7 +186,7 @@ is_lowered bounds column = list_any (λ (b : Bound). (b.column == column) && b.s
 abbrev pub is_bad_line : List (List ℕ) → List Bound → TextLine → Option BoundKind → Bool
 is_bad_line names bounds line None = false
 is_bad_line names bounds line (Some kind) = is_bad kind (bound_value line)
-  (is_lowered bounds (unwrap_or (number_of (column_word line) names) 0))
+    (is_lowered bounds (unwrap_or (number_of (column_word line) names) 0))
 
 -- the fault of a line: its kind, its number of fields, its column, its number, and its value
 abbrev pub bound_fault : List (List ℕ) → BoundsSaid → TextLine → Option CoreKind
@@ -188,13 +194,18 @@ bound_fault names said line =
     first_true (
     (is_none (kind_of line), kinds.Fields)
     ∷ (not (has_good_count line), kinds.Fields)
-    ∷ (is_used said.set (bound_set line) && is_none (number_of (column_word line) names),
-        kinds.UnknownColumn)
+    ∷ (
+      is_used said.set (bound_set line) && is_none (number_of (column_word line) names),
+      kinds.UnknownColumn,
+    )
     ∷ [])
     or (if takes_value line then value_fault (decimal_of (value_word line)) else None)
-    or first_true (
-    (is_used said.set (bound_set line) && is_bad_line names said.bounds line (kind_of line),
-        kinds.BadBound)
-    ∷ (is_used said.set (bound_set line) && (takes_value line && is_beyond (bound_value line)),
-        kinds.Limit)
+    or first_true ((
+      is_used said.set (bound_set line) && is_bad_line names said.bounds line (kind_of line),
+      kinds.BadBound,
+    )
+    ∷ (
+      is_used said.set (bound_set line) && (takes_value line && is_beyond (bound_value line)),
+      kinds.Limit,
+    )
     ∷ [])

@@ -20,12 +20,12 @@ end_said (At e) = Some e
 -- the lower end of a column's box: that of the last line that speaks of it, else 0
 abbrev pub lower_of : List Bound → ℕ → Option ℤ
 lower_of bounds column = latest (λ (b : Bound). speaks b.lower && (b.column == column))
-  (λ (b : Bound). end_said b.lower) (Some (pos 0)) bounds
+    (λ (b : Bound). end_said b.lower) (Some (pos 0)) bounds
 
 -- the upper end: that of the last line that speaks of it, else none
 abbrev pub upper_of : List Bound → ℕ → Option ℤ
 upper_of bounds column = latest (λ (b : Bound). speaks b.upper && (b.column == column))
-  (λ (b : Bound). end_said b.upper) None bounds
+    (λ (b : Bound). end_said b.upper) None bounds
 
 -- whether a number below n passes
 abbrev pub any_below : ℕ → (ℕ → Bool) → Bool
@@ -35,4 +35,4 @@ any_below (suc n) passes = any_below n passes || passes n
 -- whether one of so many boxes holds no whole number
 abbrev pub has_empty_box : List Bound → ℕ → Bool
 has_empty_box bounds count =
-  any_below count (λ j. is_empty_box (lower_of bounds j) (upper_of bounds j))
+    any_below count (λ j. is_empty_box (lower_of bounds j) (upper_of bounds j))

@@ -36,13 +36,17 @@ begins names line = is_none (number_of (field 0 line) names)
 -- the entry or cost of a pair, unless its row is ignored
 abbrev pub cell_for : Option ℕ → ℕ → Decimal → ℕ → List Cell
 cell_for None column value number = []
-cell_for (Some place) column value number = record { row = place; column = column; value = value;
-  line = number } ∷ []
+cell_for (Some place) column value number = record {
+  row = place;
+  column = column;
+  value = value;
+  line = number;
+} ∷ []
 
 -- that of the pair at field k of a line
 abbrev pub cell_in : RowsSaid → List (List ℕ) → ℕ → TextLine → List Cell
 cell_in rows names k line = cell_for (row_place rows (field k line))
-  (column_number names (field 0 line)) (number_in (field (k + 1) line)) line.number
+    (column_number names (field 0 line)) (number_in (field (k + 1) line)) line.number
 
 -- whether a line has a second pair
 abbrev pub has_second : TextLine → Bool
@@ -55,7 +59,7 @@ words_in line = if is_marker line then [] else field 0 line ∷ []
 
 abbrev pub flags_in : List (List ℕ) → Bool → TextLine → List Bool
 flags_in names marked line =
-  if is_marker line then [] else (if begins names line then marked ∷ [] else [])
+    if is_marker line then [] else (if begins names line then marked ∷ [] else [])
 
 abbrev pub marks_in : TextLine → List Bool
 marks_in line = if is_marker line then bytes_eq (field 2 line) begin_word ∷ [] else []
@@ -101,17 +105,17 @@ pair_fault rows k line =
 abbrev pub stands_together : ColumnsSaid → TextLine → Bool
 stands_together columns line =
     begins columns.names line
-        || (columns.going && (column_number columns.names (field 0 line) + 1
-        == length columns.names))
+    || (columns.going && (column_number columns.names (field 0 line) + 1
+    == length columns.names))
 
 -- whether a line has an entry that is there already
 abbrev pub repeats : RowsSaid → ColumnsSaid → TextLine → Bool
 repeats rows columns line =
     has_cell columns.cells (row_place rows (field 1 line))
-        (column_number columns.names (field 0 line))
+    (column_number columns.names (field 0 line))
     || (has_second line && (has_cell columns.cells (row_place rows (field 3 line))
-        (column_number columns.names (field 0 line))
-        || is_same_row (row_place rows (field 1 line)) (row_place rows (field 3 line))))
+    (column_number columns.names (field 0 line))
+    || is_same_row (row_place rows (field 1 line)) (row_place rows (field 3 line))))
 
 -- the fault of a marker: three fields, of which the third begins or ends
 abbrev pub marker_fault : TextLine → Option CoreKind
@@ -137,4 +141,4 @@ pairs_fault rows columns line =
 
 abbrev pub column_fault : RowsSaid → ColumnsSaid → TextLine → Option CoreKind
 column_fault rows columns line =
-  if is_marker line then marker_fault line else pairs_fault rows columns line
+    if is_marker line then marker_fault line else pairs_fault rows columns line

@@ -30,12 +30,12 @@ IsColumnLine rows columns line parsed =
 -- whether an entry of the parts is there already
 abbrev pub repeats_second : List Cell → ColumnLine → Bool
 repeats_second cells parsed = option_map_or
-  (λ (p : RowPair). has_cell cells p.row parsed.column || is_same_row parsed.first.row p.row)
-  parsed.second false
+    (λ (p : RowPair). has_cell cells p.row parsed.column || is_same_row parsed.first.row p.row)
+    parsed.second false
 
 abbrev pub repeats_pairs : List Cell → ColumnLine → Bool
 repeats_pairs cells parsed =
-  has_cell cells parsed.first.row parsed.column || repeats_second cells parsed
+    has_cell cells parsed.first.row parsed.column || repeats_second cells parsed
 
 -- the parts can be taken up: there is place for a column that begins, another is the last one, and
 -- nothing comes twice
@@ -47,11 +47,11 @@ pub record CanTake (columns : ColumnsSaid) (parsed : ColumnLine) : Type 0 where
 
 abbrev pub ArePairsShort : ColumnLine → Type 0
 ArePairsShort parsed =
-  IsShort parsed.first.value × IfSome parsed.second (λ (p : RowPair). IsShort p.value)
+    IsShort parsed.first.value × IfSome parsed.second (λ (p : RowPair). IsShort p.value)
 
 abbrev pub ArePairsPlaced : ℕ → ColumnLine → Type 0
 ArePairsPlaced count parsed = IfSome parsed.first.row (λ row. row ≤ count)
-  × IfSome parsed.second (λ (p : RowPair). IfSome p.row (λ row. row ≤ count))
+    × IfSome parsed.second (λ (p : RowPair). IfSome p.row (λ row. row ≤ count))
 
 -- the columns where a line of the column of this name is taken up, without its pairs
 abbrev pub column_begun : ColumnsSaid → List ℕ → ColumnsSaid
@@ -72,9 +72,9 @@ second_cells (Some p) column number = cell_for p.row column p.value number
 -- the cells of the parts
 abbrev pub cells_of_parts : ColumnLine → ℕ → List Cell
 cells_of_parts parsed number = cell_for parsed.first.row parsed.column parsed.first.value number
-  ++ second_cells parsed.second parsed.column number
+    ++ second_cells parsed.second parsed.column number
 
 -- the columns with the parts taken up
 abbrev pub taken : ColumnsSaid → List ℕ → ColumnLine → ℕ → ColumnsSaid
 taken columns name parsed number =
-  with_cells (column_begun columns name) (columns.cells ++ cells_of_parts parsed number)
+    with_cells (column_begun columns name) (columns.cells ++ cells_of_parts parsed number)

@@ -3,5 +3,9 @@ use Rattle.core_lines.specs.Parts.{HeadersSaid}
 use Rattle.core_lines.specs.declared.headers.Headers.{Headers}
 
 abbrev pub headers_as : Headers → HeadersSaid
-headers_as headers = record { section = headers.section; rights = headers.rights;
-  ranges = headers.ranges; bounds = headers.bounds }
+headers_as headers = record {
+  section = headers.section;
+  rights = headers.rights;
+  ranges = headers.ranges;
+  bounds = headers.bounds;
+}

@@ -90,6 +90,9 @@ header_fault before line = first_true (
     ∷ (not (is_in_place before.headers (section_of_word line)), kinds.Section)
     ∷ (not (is_name (section_of_word line)) && nat_lt 1 (field_count line), kinds.Fields)
     ∷ (is_columns (section_of_word line) && nat_lt (length before.rows.frees) 1, kinds.NoObjective)
-    ∷ (is_ending (section_of_word line)
-        && has_empty_box before.bounds.bounds (length before.columns.names), kinds.EmptyBox)
+    ∷ (
+      is_ending (section_of_word line)
+          && has_empty_box before.bounds.bounds (length before.columns.names),
+      kinds.EmptyBox,
+    )
     ∷ [])

@@ -18,15 +18,19 @@ use Rattle.core_lines.specs.declared.words.Section.TheVariants.{Start, Rows, Col
 -- the section of the last header
 abbrev pub section_of : List TextLine → Section
 section_of lines = last_or Start
-  (all_told (λ before line. if line.header then section_of_word line ∷ [] else []) [] lines)
+    (all_told (λ before line. if line.header then section_of_word line ∷ [] else []) [] lines)
 
 -- whether a header of this section stands among the lines
 abbrev pub has_stood : (Section → Bool) → List TextLine → Bool
 has_stood is lines = list_any (λ (line : TextLine). line.header && is (section_of_word line)) lines
 
 abbrev pub headers_of : List TextLine → HeadersSaid
-headers_of lines = record { section = section_of lines; rights = has_stood is_rights lines;
-  ranges = has_stood is_ranges lines; bounds = has_stood is_bounds lines }
+headers_of lines = record {
+  section = section_of lines;
+  rights = has_stood is_rights lines;
+  ranges = has_stood is_ranges lines;
+  bounds = has_stood is_bounds lines;
+}
 
 -- whether a line behind these is a data line of this section
 abbrev pub is_within : (Section → Bool) → Section → TextLine → Bool
@@ -34,9 +38,9 @@ is_within is section line = not line.header && is section
 
 -- all that the data lines of a section say, each by the lines before it
 abbrev pub said_in : {X : Type 0} → (Section → Bool) → (List TextLine → TextLine → List X)
-  → List TextLine → List X
+    → List TextLine → List X
 said_in is says lines = all_told
-  (λ before line. if is_within is (section_of before) line then says before line else []) [] lines
+    (λ before line. if is_within is (section_of before) line then says before line else []) [] lines
 
 -- ROWS
 abbrev pub rows_of : List TextLine → RowsSaid
@@ -55,7 +59,7 @@ marked_of lines = last_or false (said_in is_columns (λ before line. marks_in li
 
 abbrev pub cells_of : List TextLine → List Cell
 cells_of lines =
-  said_in is_columns (λ before line. cells_in (rows_of before) (column_names_of before) line) lines
+    said_in is_columns (λ before line. cells_in (rows_of before) (column_names_of before) line) lines
 
 abbrev pub columns_of : List TextLine → ColumnsSaid
 columns_of lines = record {
@@ -90,9 +94,14 @@ bounds_of lines = record {
 
 -- all of them
 abbrev pub before_of : List TextLine → Before
-before_of lines = record { headers = headers_of lines; rows = rows_of lines;
-  columns = columns_of lines; rights = sides_of is_rights lines; ranges = sides_of is_ranges lines;
-  bounds = bounds_of lines }
+before_of lines = record {
+  headers = headers_of lines;
+  rows = rows_of lines;
+  columns = columns_of lines;
+  rights = sides_of is_rights lines;
+  ranges = sides_of is_ranges lines;
+  bounds = bounds_of lines;
+}
 
 -- what all of them are after one more line
 abbrev pub next : Before → TextLine → Before

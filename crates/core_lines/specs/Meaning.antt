@@ -30,7 +30,7 @@ said_by lines = answer_of before_of (last_number lines) kinds.NoEnd (outcome_of 
 -- the same by a state that goes from line to line, which is how the reader works
 abbrev pub said_by_steps : List TextLine → Result Before (ℕ × CoreKind)
 said_by_steps lines = answer_of (λ b. b) (last_number lines) kinds.NoEnd
-  (folded line_fault is_end next (before_of []) lines)
+    (folded line_fault is_end next (before_of []) lines)
 
 -- the same of the lines of a file, of which a fault comes first
 abbrev pub said_by_read : List ℕ → Result (List Line) LineFault → Result Before (ℕ × CoreKind)

@@ -60,8 +60,11 @@ frees_in line = frees_added (row_kind_named (field 0 line)) (field 1 line)
 -- what the rows are after one more line, if it is a line of ROWS
 abbrev pub rows_next : Bool → RowsSaid → TextLine → RowsSaid
 rows_next false rows line = rows
-rows_next true rows line = record { names = rows.names ++ names_in line;
-  kinds = rows.kinds ++ kinds_in line; frees = rows.frees ++ frees_in line }
+rows_next true rows line = record {
+  names = rows.names ++ names_in line;
+  kinds = rows.kinds ++ kinds_in line;
+  frees = rows.frees ++ frees_in line;
+}
 
 -- whether there is no place for a row of this kind
 abbrev pub is_full : RowsSaid → Option (Option RowKind) → Bool

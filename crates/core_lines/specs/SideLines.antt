@@ -48,28 +48,30 @@ abbrev pub sides_in : RowsSaid → Option (List ℕ) → TextLine → List RowVa
 sides_in rows set line =
     if is_used set (set_name line)
     then (side_in rows (first_pair line) line
-        ++ (if has_two_pairs line then side_in rows (first_pair line + 2) line else []))
+    ++ (if has_two_pairs line then side_in rows (first_pair line + 2) line else []))
     else []
 
 -- what the sides are after one more line, if it is a line of their section
 abbrev pub sides_next : Bool → RowsSaid → SidesSaid → TextLine → SidesSaid
 sides_next false rows sides line = sides
-sides_next true rows sides line = record { set = sides.set or Some (set_name line);
-  values = sides.values ++ sides_in rows sides.set line }
+sides_next true rows sides line = record {
+  set = sides.set or Some (set_name line);
+  values = sides.values ++ sides_in rows sides.set line;
+}
 
 -- whether a row that isn't ignored has a value already
 abbrev pub has_side : List RowValue → Option ℕ → Bool
 has_side values place =
-  option_map_or (λ r. list_any (λ (v : RowValue). v.row == r) values) place false
+    option_map_or (λ r. list_any (λ (v : RowValue). v.row == r) values) place false
 
 -- whether a line has a value of a row that has one already
 abbrev pub repeats_side : RowsSaid → SidesSaid → TextLine → Bool
 repeats_side rows sides line =
     has_side sides.values (row_place rows (field (first_pair line) line))
     || (has_two_pairs line && (has_side sides.values
-        (row_place rows (field (first_pair line + 2) line))
-        || is_same_row (row_place rows (field (first_pair line) line))
-        (row_place rows (field (first_pair line + 2) line))))
+    (row_place rows (field (first_pair line + 2) line))
+    || is_same_row (row_place rows (field (first_pair line) line))
+    (row_place rows (field (first_pair line + 2) line))))
 
 -- the fault of the pairs of a line of the used set
 abbrev pub used_fault : RowsSaid → SidesSaid → TextLine → Option CoreKind
@@ -83,7 +85,7 @@ abbrev pub unused_fault : TextLine → Option CoreKind
 unused_fault line =
     number_fault kind_of_number (field (first_pair line + 1) line)
     or (if has_two_pairs line then number_fault kind_of_number (field (first_pair line + 3) line)
-        else None)
+    else None)
 
 -- the fault of a line: two to five fields, and its pairs
 abbrev pub side_fault : RowsSaid → SidesSaid → TextLine → Option CoreKind

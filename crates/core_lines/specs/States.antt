@@ -21,8 +21,13 @@ abbrev pub rows_in : RowPart → RowsSaid
 rows_in part = record { names = part.names; kinds = part.kinds; frees = part.frees }
 
 abbrev pub columns_in : ColumnPart → ColumnsSaid
-columns_in part = record { names = part.names; flags = part.flags; marked = part.marked;
-  going = part.going; cells = part.cells }
+columns_in part = record {
+  names = part.names;
+  flags = part.flags;
+  marked = part.marked;
+  going = part.going;
+  cells = part.cells;
+}
 
 abbrev pub sides_in_part : SidePart → SidesSaid
 sides_in_part part = record { set = part.set; values = part.values }
@@ -32,17 +37,24 @@ bounds_in_part part = record { set = part.set; bounds = part.bounds }
 
 -- the pair at field k of a line
 abbrev pub pair_at : RowsSaid → ℕ → TextLine → RowPair
-pair_at rows k line = record { row = row_place rows (field k line);
-  value = number_in (field (k + 1) line) }
+pair_at rows k line = record {
+  row = row_place rows (field k line);
+  value = number_in (field (k + 1) line);
+}
 
 -- the columns with these cells
 abbrev pub with_cells : ColumnsSaid → List Cell → ColumnsSaid
 with_cells columns cells = record columns { cells = cells }
 
 abbrev pub before_in : State → Before
-before_in state = record { headers = headers_as state.headers; rows = rows_in state.rows;
-  columns = columns_in state.columns; rights = sides_in_part state.rights;
-  ranges = sides_in_part state.ranges; bounds = bounds_in_part state.bounds }
+before_in state = record {
+  headers = headers_as state.headers;
+  rows = rows_in state.rows;
+  columns = columns_in state.columns;
+  rights = sides_in_part state.rights;
+  ranges = sides_in_part state.ranges;
+  bounds = bounds_in_part state.bounds;
+}
 
 -- a line asks for memory only where it has no fault, or that of an empty box, which isn't found
 -- without memory

@@ -34,5 +34,5 @@ Refuses fault number (faults.At line kind) = (line ≡ number) × (fault ≡ Som
 -- a line without a fault is taken up, with whether it ends the file
 abbrev pub Steps : Before → TextLine → Result Bool CoreFault → Before → Type 0
 Steps b line result after = MatchResult result
-  (λ ended. (line_fault b line ≡ None) × (ended ≡ is_end line) × (after ≡ next b line))
-  (Refuses (line_fault b line) line.number)
+    (λ ended. (line_fault b line ≡ None) × (ended ≡ is_end line) × (after ≡ next b line))
+    (Refuses (line_fault b line) line.number)

@@ -180,7 +180,7 @@ fn push_bound(bounds: &mut BoundPart, bound: Bound, flag: bool) -> Result<(), St
     requires flag { flag ≡ (is_lowered bounds.old.bounds bound.column || bound.speaks_low) }
     ensures { Keeps result
         ((bounds.new.set ≡ bounds.old.set)
-            × (bounds.new.bounds ≡ bounds.old.bounds ++ bound ∷ [])) }
+        × (bounds.new.bounds ≡ bounds.old.bounds ++ bound ∷ [])) }
 {
     match bounds.bounds.push(bound) {
         Ok(()) => {
@@ -196,7 +196,7 @@ fn add_bound(bounds: &mut BoundPart, bound: Bound) -> Result<(), Stop>
     requires { AreEndsSmall bound }
     ensures { Keeps result
         ((bounds.new.set ≡ bounds.old.set)
-            × (bounds.new.bounds ≡ bounds.old.bounds ++ bound ∷ [])) }
+        × (bounds.new.bounds ≡ bounds.old.bounds ++ bound ∷ [])) }
 {
     let flag = flag_with(bounds, bound);
     grow_for(bounds, bound.column)?;

@@ -89,9 +89,7 @@ fn repeats(sides: &SidePart, parsed: &SideLine) -> bool
     }
     match parsed.second {
         None => false,
-        Some(second) => {
-            has_side(sides, second.row) || is_same_row(parsed.first.row, second.row)
-        }
+        Some(second) => { has_side(sides, second.row) || is_same_row(parsed.first.row, second.row) }
     }
 }
 

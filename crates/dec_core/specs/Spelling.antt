@@ -76,13 +76,13 @@ ends_well whole fraction exponent = is_exponent exponent && has_digit whole frac
 abbrev pub are_parts : List ℕ → List ℕ → Option (List ℕ) → Bool
 are_parts whole fraction exponent =
     (list_all is_ascii_digit whole && list_all is_ascii_digit fraction)
-        && ends_well whole fraction exponent
+    && ends_well whole fraction exponent
 
 -- the spelling with these parts, if they are a number's
 abbrev pub spelling_with : Bool → List ℕ → List ℕ → Option (List ℕ) → Option Spelling
 spelling_with negative whole fraction exponent =
     if are_parts whole fraction exponent then Some (spelled negative whole fraction exponent)
-        else None
+    else None
 
 -- the spelling of a text, or none where it is no number: behind the sign and before the mark stand
 -- the digits, cut at the first point
@@ -91,4 +91,4 @@ spelling_of text =
     let number = unsigned_text text in
     let mantissa = before_first is_mark number in
     spelling_with (has_minus text) (before_first is_point mantissa) (after_first is_point mantissa)
-        (exponent_text number)
+    (exponent_text number)

@@ -22,4 +22,4 @@ pub record IsStripped (n value zeros : ℕ) : Type 0 where
 -- a significand of the number that is written by these digits
 abbrev pub IsSignificandOf : List ℕ → Significand → Type 0
 IsSignificandOf digits significand =
-  IsStripped (digits_value 10 digits) significand.value significand.zeros
+    IsStripped (digits_value 10 digits) significand.value significand.zeros

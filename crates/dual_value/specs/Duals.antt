@@ -20,7 +20,7 @@ priced_in run multipliers s = with_prices (problem_in run s) (multiplier_of run 
 -- the cost of column j with its price
 abbrev pub priced_at : Run → Multipliers → ℕ → ℕ → ℤ
 priced_at run multipliers s j =
-  number_at (problem_in run s).line j +ℤ multiplier_of run multipliers s j
+    number_at (problem_in run s).line j +ℤ multiplier_of run multipliers s j
 
 -- the search of scenario s is spent: all boxes of the budget were opened, the plain search opens
 -- more, and each scenario before has a point
@@ -39,7 +39,7 @@ DualFails run multipliers budget fault.Memory = Unit {0}
 -- why the search of scenario s has no answer
 abbrev pub LeastFails : Run → Multipliers → ℕ → ℕ → DualFault → Type 0
 LeastFails run multipliers budget s (fault.NoPoint u) =
-  (u ≡ s) × ((x : List ℤ) → Feasible (problem_in run s) x → ⊥)
+    (u ≡ s) × ((x : List ℤ) → Feasible (problem_in run s) x → ⊥)
 LeastFails run multipliers budget s (fault.Spent u opened) =
-  (u ≡ s) × (opened ≡ budget) × (budget < ref_count (priced_in run multipliers s))
+    (u ≡ s) × (opened ≡ budget) × (budget < ref_count (priced_in run multipliers s))
 LeastFails run multipliers budget s fault.Memory = Unit {0}

@@ -21,7 +21,7 @@ Counts before after (Some fault) = Rises before after
 -- the same where what is reported is the count itself
 abbrev pub CountsTo : ℕ → ℕ → Option ℕ → Type 0
 CountsTo before after reported =
-  Counts before after reported × IfSome reported (λ count. count ≡ after)
+    Counts before after reported × IfSome reported (λ count. count ≡ after)
 
 -- the count rises by one where a fault is reported, and else stays
 abbrev pub CountsOne : {F : Type 0} → ℕ → ℕ → Option F → Type 0

@@ -18,6 +18,6 @@ count_of shelf = shelf.faults
 
 -- a store leaves the files so
 abbrev pub StoreLeavesFiles : {R U : Type 0} → FileShelf R → FileShelf R → List ℕ → List ℕ
-  → Result U EdgeFault → Type 0
+    → Result U EdgeFault → Type 0
 StoreLeavesFiles old new name bytes result =
-  StoreLeaves (files_of old) (files_of new) name bytes result
+    StoreLeaves (files_of old) (files_of new) name bytes result

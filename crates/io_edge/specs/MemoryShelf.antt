@@ -42,17 +42,17 @@ told_names shelf = Some (names_of shelf)
 
 -- a load leaves the names of its calls so
 abbrev pub LoadLeavesNames : {B : Type 0} → MemoryShelf → MemoryShelf → List ℕ → Result B LoadFault
-  → Type 0
+    → Type 0
 LoadLeavesNames old new name result = told_names new ≡ names_after_load result (told_names old) name
 
 -- and so does a store
 abbrev pub StoreLeavesNames : {U : Type 0} → MemoryShelf → MemoryShelf → List ℕ → Result U EdgeFault
-  → Type 0
+    → Type 0
 StoreLeavesNames old new name result =
-  told_names new ≡ names_after_store result (told_names old) name
+    told_names new ≡ names_after_store result (told_names old) name
 
 -- a store leaves the files so
 abbrev pub StoreLeavesFiles : {U : Type 0} → MemoryShelf → MemoryShelf → List ℕ → List ℕ
-  → Result U EdgeFault → Type 0
+    → Result U EdgeFault → Type 0
 StoreLeavesFiles old new name bytes result =
-  StoreLeaves (told_files old) (told_files new) name bytes result
+    StoreLeaves (told_files old) (told_files new) name bytes result

@@ -14,6 +14,6 @@ count_of sink = sink.faults
 
 -- a put hands the bytes to the stream behind the sink
 abbrev pub PutGoesOut : {W U : Type 0} → (W → Option (List ℕ)) → OutSink W → OutSink W → List ℕ
-  → Result U EdgeFault → Type 0
+    → Result U EdgeFault → Type 0
 PutGoesOut contents old new bytes result =
-  PutTakes contents (stream_of old) (stream_of new) bytes result
+    PutTakes contents (stream_of old) (stream_of new) bytes result

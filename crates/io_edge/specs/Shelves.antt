@@ -22,12 +22,12 @@ names_after false names name = option_map (λ known. known ++ name ∷ []) names
 
 -- the same after a load
 abbrev pub names_after_load : {B : Type 0} → Result B LoadFault → Option (List (List ℕ)) → List ℕ
-  → Option (List (List ℕ))
+    → Option (List (List ℕ))
 names_after_load result names name = names_after (load_refused result) names name
 
 -- and after a store
 abbrev pub names_after_store : {U : Type 0} → Result U EdgeFault → Option (List (List ℕ)) → List ℕ
-  → Option (List (List ℕ))
+    → Option (List (List ℕ))
 names_after_store result names name = names_after (edge_refused result) names name
 
 -- these bytes stand under the name, where the files are told
@@ -37,18 +37,18 @@ Holds files name bytes = IfSome files (λ table. get table name ≡ Some bytes)
 -- more bytes than the limit stand under the name, where the files are told
 abbrev pub IsOver : Option FileTable → List ℕ → ℕ → Type 0
 IsOver files name limit =
-  IfSome files (λ table. IsSomeAnd (get table name) (λ bytes. limit < length bytes))
+    IfSome files (λ table. IsSomeAnd (get table name) (λ bytes. limit < length bytes))
 
 -- a load asks for memory: bytes stand under the name, at least one and within the limit
 abbrev pub AsksMemory : FileTable → List ℕ → ℕ → Type 0
 AsksMemory table name limit =
-  IsSomeAnd (get table name) (λ bytes. (0 < length bytes) × (length bytes ≤ limit))
+    IsSomeAnd (get table name) (λ bytes. (0 < length bytes) × (length bytes ≤ limit))
 
 -- what a load answers: the bytes under the name where they are within the limit, and TooLong where
 -- they are more
 abbrev pub LoadGives : Option FileTable → List ℕ → ℕ → Result (Vec ℕ Global) LoadFault → Type 0
 LoadGives files name limit (Ok loaded) =
-  Holds files name loaded.items × (length loaded.items ≤ limit)
+    Holds files name loaded.items × (length loaded.items ≤ limit)
 LoadGives files name limit (Err load.Failed) = Unit {0}
 LoadGives files name limit (Err load.TooLong) = IsOver files name limit
 LoadGives files name limit (Err load.Memory) = Unit {0}
@@ -57,12 +57,12 @@ LoadGives files name limit (Err load.Memory) = Unit {0}
 abbrev pub OthersStay : Option FileTable → Option FileTable → List ℕ → Type 0
 OthersStay None after name = after ≡ None
 OthersStay (Some old) after name =
-  IsSomeAnd after (λ new. (other : List ℕ) → other ≢ name → get new other ≡ get old other)
+    IsSomeAnd after (λ new. (other : List ℕ) → other ≢ name → get new other ≡ get old other)
 
 -- what a store leaves: the bytes under the name where it is done; where it fails, all other files
 abbrev pub StoreLeaves : {U : Type 0} → Option FileTable → Option FileTable → List ℕ → List ℕ
-  → Result U EdgeFault → Type 0
+    → Result U EdgeFault → Type 0
 StoreLeaves before after name bytes (Ok _) =
-  after ≡ option_map (λ table. insert table name bytes) before
+    after ≡ option_map (λ table. insert table name bytes) before
 StoreLeaves before after name bytes (Err edge.Failed) = OthersStay before after name
 StoreLeaves before after name bytes (Err edge.Memory) = after ≡ before

@@ -14,7 +14,7 @@ AppendsFront old new text = (n : ℕ) × (new ≡ appended old (take n text))
 -- what a put leaves: all bytes where it is done, a front of them where it fails, and none where
 -- memory is refused
 abbrev pub PutLeaves : {U : Type 0} → Option (List ℕ) → Option (List ℕ) → List ℕ
-  → Result U EdgeFault → Type 0
+    → Result U EdgeFault → Type 0
 PutLeaves old new bytes (Ok _) = new ≡ appended old bytes
 PutLeaves old new bytes (Err edge.Failed) = AppendsFront old new bytes
 PutLeaves old new bytes (Err edge.Memory) = new ≡ old

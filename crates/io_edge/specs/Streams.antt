@@ -17,9 +17,9 @@ TakesWhole false old new bytes = TakesFront old new bytes
 
 -- what a reader had left, where it tells, was read whole, or it was longer than the limit
 abbrev pub ReadsWithin : {B : Type 0} → (B → List ℕ) → Option (List ℕ) → ℕ → Result B LoadFault
-  → Type 0
+    → Type 0
 ReadsWithin bytes_of left limit (Ok read) =
-  IfSome left (λ rest. bytes_of read ≡ rest) × (length (bytes_of read) ≤ limit)
+    IfSome left (λ rest. bytes_of read ≡ rest) × (length (bytes_of read) ≤ limit)
 ReadsWithin bytes_of left limit (Err load.Failed) = Unit {0}
 ReadsWithin bytes_of left limit (Err load.TooLong) = IfSome left (λ rest. limit < length rest)
 ReadsWithin bytes_of left limit (Err load.Memory) = Unit {0}
@@ -27,7 +27,7 @@ ReadsWithin bytes_of left limit (Err load.Memory) = Unit {0}
 -- what a put hands to a stream, where the stream tells what it holds: all bytes, or a front of them
 -- where it fails
 abbrev pub PutTakes : {W U : Type 0} → (W → Option (List ℕ)) → W → W → List ℕ → Result U EdgeFault
-  → Type 0
+    → Type 0
 PutTakes contents old new bytes (Ok _) = Appends (contents old) (contents new) bytes
 PutTakes contents old new bytes (Err edge.Failed) = TakesFront (contents old) (contents new) bytes
 PutTakes contents old new bytes (Err edge.Memory) = Keeps (contents old) (contents new)

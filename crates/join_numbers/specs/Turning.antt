@@ -10,7 +10,7 @@ use Rattle.join_words.specs.declared.frame.Frame.{Frame}
 -- one more entry, unless its column leaves the run
 abbrev pub with_entry : Frame → List Entry → CoreEntry → List Entry
 with_entry frame entries e =
-  if stays frame.sides e.column then entries ++ entry_of frame e ∷ [] else entries
+    if stays frame.sides e.column then entries ++ entry_of frame e ∷ [] else entries
 
 -- one more change, if there is one
 abbrev pub with_change : List Change → Option Change → List Change

@@ -107,7 +107,7 @@ fn push(
     requires there { IsPlace core.now entry.now.place }
     ensures ok { OnOk result
         (changes.new ≡ with_change changes.old
-            (change_of (parts_of core.now) frame.now entry.now)) }
+        (change_of (parts_of core.now) frame.now entry.now)) }
     ensures err { IfErr result
         (ByUnfit (IsSomeLarge (change_of (parts_of core.now) frame.now entry.now))) }
 {

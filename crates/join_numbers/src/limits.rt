@@ -40,7 +40,7 @@ fn lower(row: &CoreRow, rhs: i128, places: u8) -> Result<Option<i128>, Unfit>
     requires { places ≤ 9 }
     ensures { IsLimit result
         (lower_limit row.now.kind rhs
-            (option_map (λ range. scaled_to range places) row.now.range)) }
+        (option_map (λ range. scaled_to range places) row.now.range)) }
 {
     match (row.kind, row.range) {
         (RowKind::Less, None) => Ok(None),
@@ -61,7 +61,7 @@ fn upper(row: &CoreRow, rhs: i128, places: u8) -> Result<Option<i128>, Unfit>
     requires { places ≤ 9 }
     ensures { IsLimit result
         (upper_limit row.now.kind rhs
-            (option_map (λ range. scaled_to range places) row.now.range)) }
+        (option_map (λ range. scaled_to range places) row.now.range)) }
 {
     match (row.kind, row.range) {
         (RowKind::Greater, None) => Ok(None),

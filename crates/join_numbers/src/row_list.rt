@@ -37,7 +37,7 @@ fn push(
     requires places { All (λ p. p ≤ 9) frame.now.row_places }
     ensures ok { OnOk result
         (rows.new ≡ rows.old ++ row_of (parts_of core.now) (firsts_of periods.now) frame.now i
-            ∷ []) }
+        ∷ []) }
     ensures err { IfErr result
         (ByUnfit (IsLargeRow (row_of (parts_of core.now) (firsts_of periods.now) frame.now i))) }
 {

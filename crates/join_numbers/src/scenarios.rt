@@ -30,7 +30,7 @@ fn push(
     requires weight { listed.now.weight < 2 ^ 127 }
     ensures ok { OnOk result
         (scenarios.new ≡ scenarios.old ++ scenario_of (parts_of core.now) frame.now listed.now
-            ∷ []) }
+        ∷ []) }
     ensures err { IfErr result
         (ByUnfit (IsLargeScenario (scenario_of (parts_of core.now) frame.now listed.now))) }
 {

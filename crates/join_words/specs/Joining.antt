@@ -35,15 +35,15 @@ pub record IsJoined (source : Source) (options : Options) (run : Run) : Type 0 w
 -- causes that can be told without a list
 abbrev pub IsRefused : Source → Options → JoinFault → Type 0
 IsRefused source options (Anticipates line) =
-  IsFirstEarly source.firsts source.parts.entries (Some line)
+    IsFirstEarly source.firsts source.parts.entries (Some line)
 IsRefused source options TooManyScenarios = IsTimely source × (is_crowded source ≡ true)
 IsRefused source options TooManyCells =
-  IsTimely source × (is_crowded source ≡ false) × (is_too_large source ≡ true)
+    IsTimely source × (is_crowded source ≡ false) × (is_too_large source ≡ true)
 IsRefused source options (Wide reach) = IsTimely source × (is_crowded source ≡ false)
-  × (is_too_large source ≡ false) × (is_wide source options ≡ true)
-  × (reach ≡ told_reach source options)
+    × (is_too_large source ≡ false) × (is_wide source options ≡ true)
+    × (reach ≡ told_reach source options)
 IsRefused source options Memory =
-  IsTimely source × (is_crowded source ≡ false) × (has_many_listed source ≡ false)
+    IsTimely source × (is_crowded source ≡ false) × (has_many_listed source ≡ false)
 
 -- what the join answers
 abbrev pub Joins : Result Run JoinFault → Source → Options → Type 0

@@ -25,5 +25,7 @@ upper_limit Equal rhs (Some range) = Some (rhs +ℤ int_max range (pos 0))
 
 -- both
 abbrev pub limits_by : RowKind → ℤ → Option ℤ → Limits
-limits_by kind rhs range = record { lower = lower_limit kind rhs range;
-  upper = upper_limit kind rhs range }
+limits_by kind rhs range = record {
+  lower = lower_limit kind rhs range;
+  upper = upper_limit kind rhs range;
+}

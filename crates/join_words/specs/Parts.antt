@@ -26,8 +26,12 @@ pub record Parts : Type 0 where
   pub constant : Decimal
 
 abbrev pub parts_of : Core → Parts
-parts_of core = record { rows = core.rows; columns = core.columns; entries = core.entries;
-  constant = core.constant }
+parts_of core = record {
+  rows = core.rows;
+  columns = core.columns;
+  entries = core.entries;
+  constant = core.constant;
+}
 
 -- the first column and the first row of each period
 pub record Firsts : Type 0 where
@@ -63,7 +67,7 @@ abbrev pub IsFirstEarly : Firsts → List CoreEntry → Option ℕ → Type 0
 IsFirstEarly firsts entries None = All (λ e. is_early firsts e ≡ false) entries
 IsFirstEarly firsts entries (Some line) =
     Any (λ e. (is_early firsts e ≡ true) × (e.line ≡ line)) entries
-        × All (λ e. is_early firsts e ≡ true → line ≤ e.line) entries
+    × All (λ e. is_early firsts e ≡ true → line ≤ e.line) entries
 
 -- the entries of some realisations, of some elements, and of some listed scenarios
 abbrev pub own_entries : List Realisation → List StochEntry

@@ -37,13 +37,13 @@ is_entry_in sides i e = (e.row == i) && stays sides e.column
 -- the values of those entries of a stoch file that pass a test of their places
 abbrev pub values_at : (StochPlace → Bool) → List StochEntry → List Decimal
 values_at test entries =
-  map (λ (e : StochEntry). e.value) (filter (λ (e : StochEntry). test e.place) entries)
+    map (λ (e : StochEntry). e.value) (filter (λ (e : StochEntry). test e.place) entries)
 
 -- the constant, and the costs of the core's columns that stay
 abbrev pub core_costs : Parts → List Side → List Decimal
 core_costs parts sides = parts.constant
-  ∷ map (λ j. (column_at parts j).cost)
-  (filter (stays sides) (range_with_len 0 (length parts.columns)))
+    ∷ map (λ j. (column_at parts j).cost)
+    (filter (stays sides) (range_with_len 0 (length parts.columns)))
 
 -- all costs: those of the core and those of the stoch file
 abbrev pub cost_numbers : Parts → List Side → List StochEntry → List Decimal
@@ -56,12 +56,12 @@ own_numbers row = row.right ∷ option_to_list row.range
 -- row i's right-hand side, range and entries in the core
 abbrev pub core_row_numbers : Parts → List Side → ℕ → List Decimal
 core_row_numbers parts sides i = own_numbers (row_at parts i)
-  ++ map (λ (e : CoreEntry). e.value) (filter (is_entry_in sides i) parts.entries)
+    ++ map (λ (e : CoreEntry). e.value) (filter (is_entry_in sides i) parts.entries)
 
 -- all numbers of row i: those of the core and those of the stoch file
 abbrev pub row_numbers : Parts → List Side → List StochEntry → ℕ → List Decimal
 row_numbers parts sides entries i =
-  core_row_numbers parts sides i ++ values_at (is_live_in sides i) entries
+    core_row_numbers parts sides i ++ values_at (is_live_in sides i) entries
 
 -- the places by which the costs are scaled, and row i
 abbrev pub cost_places : Parts → List Side → List StochEntry → ℕ

@@ -41,7 +41,7 @@ scaled_in frame i number = scaled_to number (slice_index frame.row_places i)
 -- the cost of column j: 0 where its box is the single 0
 abbrev pub cost_of : Parts → Frame → ℕ → ℤ
 cost_of parts frame j =
-  if is_idle frame.sides j then pos 0 else scaled_cost frame (column_at parts j).cost
+    if is_idle frame.sides j then pos 0 else scaled_cost frame (column_at parts j).cost
 
 -- column j, with this cost
 abbrev pub column_with : Firsts → Frame → ℤ → ℕ → Column
@@ -58,7 +58,7 @@ column_of parts firsts frame j = column_with firsts frame (cost_of parts frame j
 
 abbrev pub columns_of : Parts → Firsts → Frame → List Column
 columns_of parts firsts frame =
-  map (column_of parts firsts frame) (range_with_len 0 (length parts.columns))
+    map (column_of parts firsts frame) (range_with_len 0 (length parts.columns))
 
 -- the range of row i, scaled, none where it has none
 abbrev pub range_of : Parts → Frame → ℕ → Option ℤ
@@ -67,21 +67,26 @@ range_of parts frame i = option_map (scaled_in frame i) (row_at parts i).range
 -- the limits of row i with this right-hand side
 abbrev pub lower_of : Parts → Frame → ℕ → Decimal → Option ℤ
 lower_of parts frame i rhs =
-  lower_limit (row_at parts i).kind (scaled_in frame i rhs) (range_of parts frame i)
+    lower_limit (row_at parts i).kind (scaled_in frame i rhs) (range_of parts frame i)
 
 abbrev pub upper_of : Parts → Frame → ℕ → Decimal → Option ℤ
 upper_of parts frame i rhs =
-  upper_limit (row_at parts i).kind (scaled_in frame i rhs) (range_of parts frame i)
+    upper_limit (row_at parts i).kind (scaled_in frame i rhs) (range_of parts frame i)
 
 -- row i, with these limits
 abbrev pub row_with : Firsts → Limits → ℕ → Row
-row_with firsts limits i = record { stage = stage_in firsts.rows i; lower = limits.lower;
-  upper = limits.upper }
+row_with firsts limits i = record {
+  stage = stage_in firsts.rows i;
+  lower = limits.lower;
+  upper = limits.upper;
+}
 
 -- the limits of row i with this right-hand side
 abbrev pub limits_of : Parts → Frame → ℕ → Decimal → Limits
-limits_of parts frame i rhs = record { lower = lower_of parts frame i rhs;
-  upper = upper_of parts frame i rhs }
+limits_of parts frame i rhs = record {
+  lower = lower_of parts frame i rhs;
+  upper = upper_of parts frame i rhs;
+}
 
 -- row i
 abbrev pub row_of : Parts → Firsts → Frame → ℕ → Row
@@ -97,22 +102,22 @@ entry_of frame e = record { row = e.row; column = e.column; value = scaled_in fr
 -- the entries of the run: those of columns that stay
 abbrev pub entries_of : Parts → Frame → List Entry
 entries_of parts frame =
-  map (entry_of frame) (filter (λ (e : CoreEntry). stays frame.sides e.column) parts.entries)
+    map (entry_of frame) (filter (λ (e : CoreEntry). stays frame.sides e.column) parts.entries)
 
 -- another cost of column j, none where it has left the run
 abbrev pub cost_change : Frame → ℕ → Decimal → Option Change
 cost_change frame j value =
-  if is_idle frame.sides j then None else Some (change.Cost j (scaled_cost frame value))
+    if is_idle frame.sides j then None else Some (change.Cost j (scaled_cost frame value))
 
 -- another entry of row i and column j, none where the column has left the run
 abbrev pub cell_change : Frame → ℕ → ℕ → Decimal → Option Change
 cell_change frame i j value =
-  if is_idle frame.sides j then None else Some (change.Cell i j (scaled_in frame i value))
+    if is_idle frame.sides j then None else Some (change.Cell i j (scaled_in frame i value))
 
 -- other limits of row i
 abbrev pub limits_change : Parts → Frame → ℕ → Decimal → Option Change
 limits_change parts frame i value =
-  Some (change.Limits i (lower_of parts frame i value) (upper_of parts frame i value))
+    Some (change.Limits i (lower_of parts frame i value) (upper_of parts frame i value))
 
 -- what a value changes at its place
 abbrev pub change_at : Parts → Frame → StochPlace → Decimal → Option Change
@@ -125,8 +130,10 @@ change_of parts frame e = change_at parts frame e.place e.value
 
 -- a scenario: its weight, and what its values change
 abbrev pub scenario_of : Parts → Frame → ScenarioData → Scenario
-scenario_of parts frame listed = record { weight = pos listed.weight;
-  changes = filter_map (change_of parts frame) listed.entries }
+scenario_of parts frame listed = record {
+  weight = pos listed.weight;
+  changes = filter_map (change_of parts frame) listed.entries;
+}
 
 -- the scenarios of the run
 abbrev pub run_scenarios : Source → List Scenario
@@ -155,7 +162,7 @@ total_of source = sum_z (λ (s : Scenario). s.weight) (run_scenarios source)
 -- how many columns have a stage before the last
 abbrev pub nonleaf_in : Firsts → ℕ → ℕ
 nonleaf_in firsts n =
-  count_by (λ j. nat_lt (stage_in firsts.columns j) (stages_of firsts)) (range_with_len 0 n)
+    count_by (λ j. nat_lt (stage_in firsts.columns j) (stages_of firsts)) (range_with_len 0 n)
 
 abbrev pub nonleaf_of : Source → ℕ
 nonleaf_of source = nonleaf_in source.firsts (length source.parts.columns)
@@ -163,7 +170,7 @@ nonleaf_of source = nonleaf_in source.firsts (length source.parts.columns)
 -- the reach of the run, and the reach that a refusal tells: 2^127 where it is greater
 abbrev pub reach_of : Source → Options → ℕ
 reach_of source options =
-  run_reach (program_of source) (options_of source options) (total_of source) (nonleaf_of source)
+    run_reach (program_of source) (options_of source options) (total_of source) (nonleaf_of source)
 
 abbrev pub told_reach : Source → Options → ℕ
 told_reach source options = min (reach_of source options) (2 ^ 127)
@@ -176,17 +183,17 @@ is_crowded source = nat_lt MAX_SCENARIOS (count_of source.stoch)
 -- nonleaf columns
 abbrev pub has_many_cells : ℕ → ℕ → ℕ → ℕ → Bool
 has_many_cells count columns rows nonleaf = nat_lt MAX_CELLS (count * columns)
-  || nat_lt MAX_CELLS (count * rows) || nat_lt MAX_NONLEAF_CELLS (count * nonleaf)
+    || nat_lt MAX_CELLS (count * rows) || nat_lt MAX_NONLEAF_CELLS (count * nonleaf)
 
 -- whether the scenarios of this source have
 abbrev pub has_many_listed : Source → Bool
 has_many_listed source = has_many_cells (count_of source.stoch) (length source.parts.columns)
-  (length source.parts.rows) (nonleaf_of source)
+    (length source.parts.rows) (nonleaf_of source)
 
 -- whether all scenarios together have too many changes
 abbrev pub has_many_changes : Source → Bool
 has_many_changes source =
-  nat_lt MAX_CELLS (sum_by (λ (s : Scenario). length s.changes) (run_scenarios source))
+    nat_lt MAX_CELLS (sum_by (λ (s : Scenario). length s.changes) (run_scenarios source))
 
 -- whether there are too many cells
 abbrev pub is_too_large : Source → Bool

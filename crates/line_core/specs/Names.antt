@@ -17,6 +17,6 @@ AreDistinct names = AllPairs (λ one other. one ≢ other) names
 -- memory is asked for a new name alone
 abbrev pub AddAnswers : List (List ℕ) → List (List ℕ) → List ℕ → Result ℕ NameFault → Type 0
 AddAnswers old new name (Ok number) =
-  (number_of name old ≡ None) × (number ≡ length old) × (new ≡ old ++ name ∷ [])
+    (number_of name old ≡ None) × (number ≡ length old) × (new ≡ old ++ name ∷ [])
 AddAnswers old new name (Err (Twice first)) = (number_of name old ≡ Some first) × (new ≡ old)
 AddAnswers old new name (Err Memory) = (number_of name old ≡ None) × (new ≡ old)

@@ -18,7 +18,7 @@ pub record IsFieldAt (text : List ℕ) (first stop : ℕ) : Type 0 where
 -- the span of a longest run in a text that begins at a place of its file
 abbrev pub IsFieldOf : ℕ → List ℕ → Span → Type 0
 IsFieldOf start text span =
-  (start ≤ span.start) × IsFieldAt text (span.start - start) (span.end - start)
+    (start ≤ span.start) × IsFieldAt text (span.start - start) (span.end - start)
 
 -- a span that ends before another begins
 abbrev pub IsBefore : Span → Span → Type 0

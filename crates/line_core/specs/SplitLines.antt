@@ -53,8 +53,11 @@ read_line number start text =
     if is_comment text then Ok None
     else (if nat_lt max_line_bytes (length text) then Err (TooLong number)
     else (if is_plain text then Ok
-        (Some (record { number = number; header = is_unindented text;
-        fields = fields_at start text }))
+    (Some (record {
+      number = number;
+      header = is_unindented text;
+      fields = fields_at start text;
+    }))
     else Err (NotAscii number)))
 
 -- what the parts between newlines are read as: a carriage return before a newline is dropped
@@ -63,7 +66,7 @@ read_parts number start [] = []
 read_parts number start (part ∷ []) = read_line number start part ∷ []
 read_parts number start (part ∷ next ∷ parts) =
     read_line number start (without_return part)
-        ∷ read_parts (number + 1) (start + length part + 1) (next ∷ parts)
+    ∷ read_parts (number + 1) (start + length part + 1) (next ∷ parts)
 
 -- lines that stand before those that are read after them
 abbrev pub after_lines : List Line → Result (List Line) LineFault → Result (List Line) LineFault
@@ -125,12 +128,12 @@ asks_memory number start text = is_line (read_line number start text)
 -- for it
 abbrev pub IsLineFault : ℕ → ℕ → List ℕ → LineFault → Type 0
 IsLineFault number start text fault =
-  IsFaultOf (asks_memory number start text) (read_line number start text) fault
+    IsFaultOf (asks_memory number start text) (read_line number start text) fault
 
 -- the answer is what a text is read as, or want of memory where it asks for it
 abbrev pub GivesLine : ℕ → ℕ → List ℕ → Result (Option Line) LineFault → Type 0
 GivesLine number start text answer =
-  Gives (asks_memory number start text) (read_line number start text) answer
+    Gives (asks_memory number start text) (read_line number start text) answer
 
 -- what is read without a fault stands behind the lines
 abbrev pub IsAdded : Result (Option Line) LineFault → List Line → List Line → Type 0

@@ -10,7 +10,7 @@ use Rattle.plain_board.specs.Seats.{room_for}
 abbrev pub ArePlaces : (ℕ → ℕ) → ℕ → List ℕ → ℕ → ℕ → Type 0
 ArePlaces wide count starts words widest =
     (length starts ≡ count) × ((w : ℕ) → w < count → slice_index starts w ≡ start wide w)
-        × (words ≡ start wide count) × ((w : ℕ) → w < count → wide w ≤ widest)
+    × (words ≡ start wide count) × ((w : ℕ) → w < count → wide w ≤ widest)
 
 -- no accepted entries of window w, with room for those that there may be
 abbrev pub fresh_track : ℕ → ℕ → ℕ → Contents ℕ
@@ -18,5 +18,12 @@ fresh_track leaders most w = with_room (room_for leaders most w)
 
 -- a seat that owns no window and knows nothing
 abbrev pub blank_view : ℕ → View
-blank_view count = record { hub = false; dealt = 0; owned = []; pending = None; reading = None;
-  accepted = replicate count []; stopped = 0 }
+blank_view count = record {
+  hub = false;
+  dealt = 0;
+  owned = [];
+  pending = None;
+  reading = None;
+  accepted = replicate count [];
+  stopped = 0;
+}

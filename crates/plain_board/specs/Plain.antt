@@ -16,8 +16,15 @@ use Rattle.plain_board.specs.Seats.{shown, own_window, put_count, read_count, Is
 
 -- a seat that knows nothing
 abbrev pub no_view : View
-no_view = record { hub = false; dealt = 0; owned = []; pending = None; reading = None;
-  accepted = []; stopped = 0 }
+no_view = record {
+  hub = false;
+  dealt = 0;
+  owned = [];
+  pending = None;
+  reading = None;
+  accepted = [];
+  stopped = 0;
+}
 
 -- the words and views as a table has them
 abbrev pub state : {M : Type 0} → M → List ℕ → List View → State ℕ (Known M)
@@ -27,9 +34,9 @@ state of words views = record { words = words; homes = []; views = map (known of
 abbrev pub words_after : (ℕ → ℕ) → Call → View → List ℕ → List ℕ
 words_after wide (Open k) v words = slice_set words (start wide (own_window v)) (2 * k - 1)
 words_after wide (Put n) v words =
-  slice_set words (start wide (own_window v) + 1 + put_count v.pending) n
+    slice_set words (start wide (own_window v) + 1 + put_count v.pending) n
 words_after wide Close v words =
-  slice_set words (start wide (own_window v)) (2 * entry_of v.pending)
+    slice_set words (start wide (own_window v)) (2 * entry_of v.pending)
 words_after wide (Begin w) v words = words
 words_after wide (Read w) v words = words
 words_after wide (End w) v words = words
@@ -68,11 +75,15 @@ TellsOwn leaders Stopped n v = Unit {0}
 
 -- the whole board after a call with the answer n, and what the answer tells
 abbrev pub LeavesAll : {M : Type 0} → (M → ℕ) → (M → ℕ → ℕ) → PlainValue M → Call → ℕ → PlainValue M
-  → Type 0
+    → Type 0
 LeavesAll lead wide b call n b' =
     (n ≡ answer_of (wide b.0) call (selected b) b.1)
-    × (b' ≡ (b.0, words_after (wide b.0) call (selected b) b.1,
-        slice_set b.2 b.3 (after (lead b.0) call n (selected b)), b.3))
+    × (b' ≡ (
+      b.0,
+      words_after (wide b.0) call (selected b) b.1,
+      slice_set b.2 b.3 (after (lead b.0) call n (selected b)),
+      b.3,
+    ))
     × TellsOwn (lead b.0) call n (selected b)
 
 -- entries ascend from 1, so there are never more of them than the number of the last: of those that
@@ -87,8 +98,8 @@ pub record IsFew (leaders : ℕ) (v : View) : Type 0 where
 -- what a plain board keeps: the rule of the windows, where they begin, one seat more than windows,
 -- and room
 pub record PlainRule {M : Type 0} (entry : M → ℕ → ℕ → List ℕ) (wide : M → ℕ → ℕ)
-  (count lead last : M → ℕ) (of : M) (words starts : List ℕ) (seats : List PlainSeat)
-  (at : ℕ) : Type 0 where
+    (count lead last : M → ℕ) (of : M) (words starts : List ℕ) (seats : List PlainSeat)
+    (at : ℕ) : Type 0 where
   pub rule : Windows (entry of) (wide of) (count of) (lead of) (last of)
       of (state of words (map shown seats))
   pub short : (p : ℕ) → slice_index words p < 2 ^ 64
@@ -103,13 +114,27 @@ pub record PlainRule {M : Type 0} (entry : M → ℕ → ℕ → List ℕ) (wide
 
 -- what the hub's seat knows of a fresh board: all windows are handed out
 abbrev pub hub_view : ℕ → View
-hub_view count = record { hub = true; dealt = count; owned = []; pending = None; reading = None;
-  accepted = replicate count []; stopped = 0 }
+hub_view count = record {
+  hub = true;
+  dealt = count;
+  owned = [];
+  pending = None;
+  reading = None;
+  accepted = replicate count [];
+  stopped = 0;
+}
 
 -- what the owner of window w knows of a fresh board
 abbrev pub owner_view : ℕ → ℕ → View
-owner_view count w = record { hub = false; dealt = 0; owned = one w []; pending = None;
-  reading = None; accepted = replicate count []; stopped = 0 }
+owner_view count w = record {
+  hub = false;
+  dealt = 0;
+  owned = one w [];
+  pending = None;
+  reading = None;
+  accepted = replicate count [];
+  stopped = 0;
+}
 
 abbrev pub fresh_views : ℕ → List View
 fresh_views count = hub_view count ∷ map (owner_view count) (range_with_len 0 count)
@@ -117,4 +142,4 @@ fresh_views count = hub_view count ∷ map (owner_view count) (range_with_len 0 
 -- a fresh board: all words are 0, and the hub's seat is selected
 abbrev pub fresh_board : {M : Type 0} → (M → ℕ → ℕ) → (M → ℕ) → M → PlainValue M
 fresh_board wide count of =
-  (of, replicate (start (wide of) (count of)) 0, fresh_views (count of), 0)
+    (of, replicate (start (wide of) (count of)) 0, fresh_views (count of), 0)

@@ -74,9 +74,9 @@ abbrev pub HasRoomFor : ℕ → ℕ → ℕ → List (Contents ℕ) → Type 0
 HasRoomFor leaders w k tracks =
     (w < length tracks) × (w < leaders → 0 < room_of (slice_index_or tracks w empty))
     × (leaders ≤ w → list_any (λ j. nat_eq j k) (slice_index_or tracks w empty).items ≡ false
-        → 0 < (slice_index_or tracks w empty).spare)
+    → 0 < (slice_index_or tracks w empty).spare)
 
 -- the same of the window that is being read, where the reading ends whole at the stamp n
 abbrev pub HasRoomToEnd : ℕ → ℕ → PlainSeat → Type 0
 HasRoomToEnd leaders n s = (b : Begun) → s.reading ≡ Some b → is_whole b.first n ≡ true
-  → HasRoomFor leaders b.window (n / 2) s.accepted.items
+    → HasRoomFor leaders b.window (n / 2) s.accepted.items

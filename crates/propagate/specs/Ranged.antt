@@ -33,8 +33,10 @@ range_at ranges i = slice_index_or ranges i no_range
 
 -- a range after the side of an entry's column was changed
 abbrev pub moved : ℤ → Side → Side → Range → Range
-moved v s t r = record { low = (r.low -ℤ low_end v s) +ℤ low_end v t;
-  high = (r.high -ℤ high_end v s) +ℤ high_end v t }
+moved v s t r = record {
+  low = (r.low -ℤ low_end v s) +ℤ low_end v t;
+  high = (r.high -ℤ high_end v s) +ℤ high_end v t;
+}
 
 -- the range of row i's activity over the sides
 pub record IsRange (entries : List Entry) (sides : List Side) (i : ℕ) (range : Range) : Type 0 where
@@ -43,7 +45,7 @@ pub record IsRange (entries : List Entry) (sides : List Side) (i : ℕ) (range :
 
 -- the ranges of the first n rows
 pub record AreRanges (n : ℕ) (entries : List Entry) (sides : List Side)
-  (ranges : List Range) : Type 0 where
+    (ranges : List Range) : Type 0 where
   pub long : length ranges ≡ n
   pub all : (i : ℕ) → i < n → IsRange entries sides i (range_at ranges i)
 
@@ -51,7 +53,7 @@ pub record AreRanges (n : ℕ) (entries : List Entry) (sides : List Side)
 -- ranges are those of the sides;
 -- and its marks rise, up to the number of changes
 pub record IsTrail (columns : List Side) (n : ℕ) (entries : List Entry) (sides : List Side)
-  (changes : List Change) (marks : List ℕ) (ranges : List Range) : Type 0 where
+    (changes : List Change) (marks : List ℕ) (ranges : List Range) : Type 0 where
   pub long : length sides ≡ length columns
   pub inside : (j : ℕ) → IsInside (side_at sides j) (side_at columns j)
   pub olds : All (λ c. (c.column < length columns)

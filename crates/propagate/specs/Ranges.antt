@@ -13,13 +13,13 @@ use Rattle.boxed_problem.specs.declared.parts.Entry.{Entry}
 abbrev pub low_part : List Side → ℕ → Entry → ℤ
 low_part box i e =
     if e.row == i then int_min (e.value *ℤ (side_at box e.column).lower)
-        (e.value *ℤ (side_at box e.column).upper) else pos 0
+    (e.value *ℤ (side_at box e.column).upper) else pos 0
 
 -- the greatest that an entry adds to the activity of row i in a box
 abbrev pub high_part : List Side → ℕ → Entry → ℤ
 high_part box i e =
     if e.row == i then int_max (e.value *ℤ (side_at box e.column).lower)
-        (e.value *ℤ (side_at box e.column).upper) else pos 0
+    (e.value *ℤ (side_at box e.column).upper) else pos 0
 
 -- the lower end of the range of row i's activity in a box
 abbrev pub low_activity : List Entry → List Side → ℕ → ℤ
@@ -38,4 +38,4 @@ abbrev pub misses_one : ℕ → List Limits → List Entry → List Side → Boo
 misses_one zero rows entries box = false
 misses_one (suc n) rows entries box =
     misses_one n rows entries box
-        || misses (limits_at rows n) (low_activity entries box n) (high_activity entries box n)
+    || misses (limits_at rows n) (low_activity entries box n) (high_activity entries box n)

@@ -37,7 +37,7 @@ pub record KeepsBelow (value : ℤ) (side : Side) (slack : ℤ) (new : Side) : T
 
 -- a side of a column that each point of the sides that meets the rows lies on
 pub record IsCut (rows : List Limits) (entries : List Entry) (sides : List Side) (column : ℕ)
-  (new : Side) : Type 0 where
+    (new : Side) : Type 0 where
   pub inside : IsInside new (side_at sides column)
   pub keeps : (x : List ℤ) → InBox sides x → meets_rows (length rows) rows entries x ≡ true
       → (new.lower ≤ℤ number_at x column) × (number_at x column ≤ℤ new.upper)
@@ -45,7 +45,7 @@ pub record IsCut (rows : List Limits) (entries : List Entry) (sides : List Side)
 -- each point of the old sides that meets the rows lies on the new ones
 abbrev pub KeepsMet : List Limits → List Entry → List Side → List Side → Type 0
 KeepsMet rows entries old new =
-  (x : List ℤ) → InBox old x → meets_rows (length rows) rows entries x ≡ true → InBox new x
+    (x : List ℤ) → InBox old x → meets_rows (length rows) rows entries x ≡ true → InBox new x
 
 -- narrower sides of a trail, that hold the same points which meet the rows of its sparse form
 pub record Tightens (sparse : Sparse) (old new : Trail) : Type 0 where
@@ -55,7 +55,7 @@ pub record Tightens (sparse : Sparse) (old new : Trail) : Type 0 where
 
 -- the range of row i over the sides misses its limits
 pub record MissesRow (rows : List Limits) (entries : List Entry) (sides : List Side)
-  (i : ℕ) : Type 0 where
+    (i : ℕ) : Type 0 where
   pub short : i < length rows
   pub is : misses (limits_at rows i) (low_activity entries sides i) (high_activity entries sides i)
       ≡ true
@@ -73,7 +73,7 @@ HoldsNone b sides = (x : List ℤ) → InBox sides x → meets_all b x ≡ false
 -- isn't empty; the range holds that of the row over the sides, and doesn't
 -- miss the row's limits; and no number is too great
 pub record IsReady (rows : List Limits) (entries : List Entry) (sides : List Side) (place : ℕ)
-  (range : Range) : Type 0 where
+    (range : Range) : Type 0 where
   pub row : (entry_at entries place).row < length rows
   pub column : (entry_at entries place).column < length sides
   pub filled : (side_at sides (entry_at entries place).column).lower

@@ -23,7 +23,7 @@ use wide_num::List;
 fn first_ranges(alloc: Global, sparse: &Sparse) -> Result<List<Range>, AllocError>
     ensures { IfOk result
         (λ ranges. AreRanges (length sparse.now.rows) sparse.now.entries sparse.now.columns
-            ranges) }
+        ranges) }
 {
     let columns = sparse.columns.as_slice();
     let entries = sparse.entries.as_slice();

@@ -15,16 +15,16 @@ use Rattle.put_words.specs.NodeSums.{bundle, sum_of, weight_at, weight_of}
 -- twice penalty times weight times the mean of the node of scenario s in column j, rounded down
 abbrev pub pull : Run → List ℤ → ℕ → ℕ → ℤ
 pull run x s j = rounded_down
-  ((pos 2 *ℤ (run.options.rho *ℤ weight_at run s)) *ℤ sum_of run x (bundle run s j) j)
-  (weight_of run (bundle run s j))
+    ((pos 2 *ℤ (run.options.rho *ℤ weight_at run s)) *ℤ sum_of run x (bundle run s j) j)
+    (weight_of run (bundle run s j))
 
 -- the linear part of column j: twice its cost, and in a nonleaf column twice its multiplier
 -- besides, less the pull
 abbrev pub hedged_line : Run → Multipliers → List ℤ → ℕ → ℕ → ℤ
 hedged_line run multipliers x s j =
     if nat_lt j run.nonleaf then (pos 2
-        *ℤ (number_at (problem_in run s).line j +ℤ multiplier_of run multipliers s j))
-        -ℤ pull run x s j else pos 2 *ℤ number_at (problem_in run s).line j
+    *ℤ (number_at (problem_in run s).line j +ℤ multiplier_of run multipliers s j))
+    -ℤ pull run x s j else pos 2 *ℤ number_at (problem_in run s).line j
 
 -- the square part of column j: penalty times weight in a nonleaf column
 abbrev pub hedged_square : Run → ℕ → ℕ → ℤ

@@ -21,8 +21,8 @@ rounded_down a b = int_div_euclid a b
 abbrev pub rise : Run → List ℤ → List ℕ → ℕ → ℕ → ℤ
 rise run x members j s =
     rounded_down ((run.options.rho *ℤ weight_at run s)
-        *ℤ ((weight_of run members *ℤ value_at run x s j) -ℤ sum_of run x members j))
-        (weight_of run members)
+    *ℤ ((weight_of run members *ℤ value_at run x s j) -ℤ sum_of run x members j))
+    (weight_of run members)
 
 -- the last of a node's scenarios, and those before it
 abbrev pub last_of : List ℕ → ℕ
@@ -34,17 +34,19 @@ front_of members = take (length members - 1) members
 -- the move of scenario s in its node: its rise; the last one of the node takes what makes the sum 0
 abbrev pub move_in : Run → List ℤ → List ℕ → ℕ → ℕ → ℤ
 move_in run x members j s = if s == last_of members
-  then neg_ℤ (sum_z (rise run x members j) (front_of members)) else rise run x members j s
+    then neg_ℤ (sum_z (rise run x members j) (front_of members)) else rise run x members j s
 
 -- the next multiplier of scenario s and nonleaf column j
 abbrev pub moved : Run → Multipliers → List ℤ → ℕ → ℕ → ℤ
 moved run multipliers x s j =
-  multiplier_of run multipliers s j +ℤ move_in run x (bundle run s j) j s
+    multiplier_of run multipliers s j +ℤ move_in run x (bundle run s j) j s
 
 -- the next multipliers, scenario after scenario
 unfoldable pub next_of : Run → Multipliers → List ℤ → Multipliers
-next_of run multipliers x = record { values = gathered (scenarios run)
-  (λ s. map (moved run multipliers x s) (range_with_len 0 run.nonleaf)) }
+next_of run multipliers x = record {
+  values = gathered (scenarios run)
+      (λ s. map (moved run multipliers x s) (range_with_len 0 run.nonleaf));
+}
 
 -- multipliers of 0
 abbrev pub no_multipliers : Run → Multipliers

@@ -17,8 +17,8 @@ use Rattle.put_words.specs.NextMultipliers.{next_of, no_multipliers}
 abbrev pub bests_below : ℕ → (ℕ → Problem) → Option (List (List ℤ))
 bests_below zero problems = Some []
 bests_below (suc n) problems = option_and_then
-  (λ front. option_map (λ (best : Best). front ++ best.point ∷ []) (best_of (problems n)))
-  (bests_below n problems)
+    (λ front. option_map (λ (best : Best). front ++ best.point ∷ []) (best_of (problems n)))
+    (bests_below n problems)
 
 -- a put with the points of all scenarios that it was made from
 pub record Made : Type 0 where
@@ -32,8 +32,11 @@ early_values run points = flat_map (λ point. take run.nonleaf point) points
 -- put number k: multipliers that were moved by the values of some points
 abbrev pub made_from : Run → ℕ → Multipliers → List (List ℤ) → Made
 made_from run k multipliers points = record {
-  put = record { number = k; multipliers = next_of run multipliers (early_values run points);
-      x = early_values run points };
+  put = record {
+    number = k;
+    multipliers = next_of run multipliers (early_values run points);
+    x = early_values run points;
+  };
   plan = record { points = points };
 }
 
@@ -44,9 +47,9 @@ made_from run k multipliers points = record {
 unfoldable pub put_of : Run → ℕ → Option Made
 put_of run zero = None
 put_of run (suc zero) =
-  option_map (made_from run 1 (no_multipliers run)) (bests_below (scenarios run) (problem_in run))
+    option_map (made_from run 1 (no_multipliers run)) (bests_below (scenarios run) (problem_in run))
 put_of run (suc (suc k)) =
     option_and_then (λ (before : Made). option_map
-        (made_from run (suc (suc k)) before.put.multipliers)
-        (bests_below (scenarios run) (hedged_in run before.put.multipliers before.put.x)))
-        (put_of run (suc k))
+    (made_from run (suc (suc k)) before.put.multipliers)
+    (bests_below (scenarios run) (hedged_in run before.put.multipliers before.put.x)))
+    (put_of run (suc k))

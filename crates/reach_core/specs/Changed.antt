@@ -13,7 +13,7 @@ use Rattle.reach_core.specs.Greatest.{with_part}
 -- its cost among the greatest costs
 abbrev pub raised_by : List ℕ → Change → List ℕ
 raised_by tops (change.Cost column value) =
-  slice_set tops column (max (slice_index tops column) (unsigned_abs value))
+    slice_set tops column (max (slice_index tops column) (unsigned_abs value))
 raised_by tops (change.Cell row column value) = tops
 raised_by tops (change.Limits row lower upper) = tops
 
@@ -21,15 +21,15 @@ raised_by tops (change.Limits row lower upper) = tops
 abbrev pub taken_by : Program → List ℕ → Change → List ℕ
 taken_by program sums (change.Cost column value) = sums
 taken_by program sums (change.Cell row column value) = slice_set sums row
-  (slice_index sums row - capped
-  (unsigned_abs (cell_in (core_data program) row column) * box_reach program column))
+    (slice_index sums row - capped
+    (unsigned_abs (cell_in (core_data program) row column) * box_reach program column))
 taken_by program sums (change.Limits row lower upper) = sums
 
 -- the sums with the part of its entry
 abbrev pub given_by : Program → List ℕ → Change → List ℕ
 given_by program sums (change.Cost column value) = sums
 given_by program sums (change.Cell row column value) =
-  with_part program sums (record { row = row; column = column; value = value })
+    with_part program sums (record { row = row; column = column; value = value })
 given_by program sums (change.Limits row lower upper) = sums
 
 -- the magnitude of its limits among those of the rows
@@ -37,4 +37,4 @@ abbrev pub limited_by : List ℕ → Change → List ℕ
 limited_by sizes (change.Cost column value) = sizes
 limited_by sizes (change.Cell row column value) = sizes
 limited_by sizes (change.Limits row lower upper) =
-  slice_set sizes row (limits_size (record { lower = lower; upper = upper }))
+    slice_set sizes row (limits_size (record { lower = lower; upper = upper }))

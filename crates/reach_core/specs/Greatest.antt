@@ -21,12 +21,12 @@ tops_of n ds = map (λ j. greatest (map (cost_size j) ds)) (range_with_len 0 n)
 -- the parts of some entries in each row, up to the cap
 abbrev pub sums_of : Program → List Entry → List ℕ
 sums_of program entries = map (λ i. capped (sum_by (entry_size (sides program) i) entries))
-  (range_with_len 0 (length program.rows))
+    (range_with_len 0 (length program.rows))
 
 -- one more entry's part in its row
 abbrev pub with_part : Program → List ℕ → Entry → List ℕ
 with_part program sums e = slice_set sums e.row
-  (capped (slice_index sums e.row + capped (unsigned_abs e.value * box_reach program e.column)))
+    (capped (slice_index sums e.row + capped (unsigned_abs e.value * box_reach program e.column)))
 
 -- the greatest costs and the greatest row among some data
 pub record AreGreatest (program : Program) (ds : List Data) (g : Greatest) : Type 0 where

@@ -8,7 +8,7 @@ use Rattle.sp_model.specs.declared.program.Program.{Program}
 -- each entry names a row and a column that are there
 abbrev pub AreThere : Program → Type 0
 AreThere program = All (λ (e : Entry). (e.row < length program.rows)
-  × (e.column < length program.columns)) program.entries
+    × (e.column < length program.columns)) program.entries
 
 -- the entries ascend by column, and by row within a column
 abbrev pub AreOrdered : Program → Type 0

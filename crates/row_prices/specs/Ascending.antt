@@ -9,7 +9,7 @@ use Rattle.boxed_problem.specs.declared.parts.Side.{Side}
 -- a cost, a square and a side for each column, a price for each row, and entries of rows and
 -- columns that are there
 pub record IsAscent (columns sides : List Side) (rows : List Limits) (entries : List Entry)
-  (line square values : List ℤ) : Type 0 where
+    (line square values : List ℤ) : Type 0 where
   pub ends : length columns ≡ length sides
   pub lines : length line ≡ length sides
   pub squares : length square ≡ length sides

@@ -18,7 +18,7 @@ pub fn side_reach(side: Side) -> u128
 pub fn part_size(line: i128, square: i128, side: Side) -> Option<u128>
     ensures { IfSome result
         (λ r. r ≡ unsigned_abs line * reach side + unsigned_abs square
-            * (reach side * reach side)) }
+        * (reach side * reach side)) }
 {
     let far = side_reach(side);
     let linear = line.unsigned_abs().checked_mul(far)?;

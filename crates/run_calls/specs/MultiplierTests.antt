@@ -32,23 +32,27 @@ AreLong run multipliers = length multipliers.values ≡ scenarios run * run.nonl
 -- sized multipliers: none has a greater magnitude than its column allows
 abbrev pub AreSized : Run → Multipliers → Type 0
 AreSized run multipliers = (s j : ℕ) → s < scenarios run → j < run.nonleaf
-  → unsigned_abs (multiplier_of run multipliers s j) ≤ most_at run j
+    → unsigned_abs (multiplier_of run multipliers s j) ≤ most_at run j
 
 -- the multiplier of scenario s and column j beside the greatest magnitude of its column
 abbrev pub size_fault : Run → Multipliers → ℕ → ℕ → TooBig
-size_fault run multipliers s j = record { scenario = s; column = j;
-  value = multiplier_of run multipliers s j; most = pos (most_at run j) }
+size_fault run multipliers s j = record {
+  scenario = s;
+  column = j;
+  value = multiplier_of run multipliers s j;
+  most = pos (most_at run j);
+}
 
 -- this, where the multiplier is too big
 abbrev pub too_big_at : Run → Multipliers → ℕ → ℕ → Option TooBig
 too_big_at run multipliers s j = if nat_lt (most_at run j)
-  (unsigned_abs (multiplier_of run multipliers s j)) then Some (size_fault run multipliers s j)
-  else None
+    (unsigned_abs (multiplier_of run multipliers s j)) then Some (size_fault run multipliers s j)
+    else None
 
 -- the first one of scenario s
 abbrev pub too_big_in : Run → Multipliers → ℕ → Option TooBig
 too_big_in run multipliers s =
-  first_some (too_big_at run multipliers s) (range_with_len 0 run.nonleaf)
+    first_some (too_big_at run multipliers s) (range_with_len 0 run.nonleaf)
 
 -- the first one of all, scenario after scenario
 abbrev pub too_big : Run → Multipliers → Option TooBig
@@ -57,7 +61,7 @@ too_big run multipliers = first_some (too_big_in run multipliers) (range_with_le
 -- the sum of the multipliers of node i in column j
 abbrev pub balance_of : Run → Multipliers → ℕ → ℕ → ℤ
 balance_of run multipliers i j =
-  sum_z (λ s. multiplier_of run multipliers s j) (scenarios_at run.program.tree.nodes i)
+    sum_z (λ s. multiplier_of run multipliers s j) (scenarios_at run.program.tree.nodes i)
 
 -- node i
 abbrev pub node_at : Run → ℕ → Node
@@ -69,21 +73,24 @@ is_of_stage run i j = stage_of run j == (node_at run i).stage
 
 -- node i and column j with the sum of their multipliers
 abbrev pub balance_fault : Run → Multipliers → ℕ → ℕ → Unbalanced
-balance_fault run multipliers i j = record { node = i; column = j;
-  sum = balance_of run multipliers i j }
+balance_fault run multipliers i j = record {
+  node = i;
+  column = j;
+  sum = balance_of run multipliers i j;
+}
 
 -- this, where the column is of the node's stage and the sum isn't 0
 abbrev pub unbalanced_at : Run → Multipliers → ℕ → ℕ → Option Unbalanced
 unbalanced_at run multipliers i j = if is_of_stage run i j
-  && not (int_eq (balance_of run multipliers i j) (pos 0))
-  then Some (balance_fault run multipliers i j) else None
+    && not (int_eq (balance_of run multipliers i j) (pos 0))
+    then Some (balance_fault run multipliers i j) else None
 
 -- the first column of node i
 abbrev pub unbalanced_in : Run → Multipliers → ℕ → Option Unbalanced
 unbalanced_in run multipliers i =
-  first_some (unbalanced_at run multipliers i) (range_with_len 0 run.nonleaf)
+    first_some (unbalanced_at run multipliers i) (range_with_len 0 run.nonleaf)
 
 -- the first node and column of all
 abbrev pub unbalanced : Run → Multipliers → Option Unbalanced
 unbalanced run multipliers =
-  first_some (unbalanced_in run multipliers) (range_with_len 0 (length run.program.tree.nodes))
+    first_some (unbalanced_in run multipliers) (range_with_len 0 (length run.program.tree.nodes))

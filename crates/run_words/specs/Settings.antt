@@ -55,7 +55,7 @@ is_option word = list_any (λ (setting : Setting). bytes_eq word setting.name) s
 -- whether each pair begins with the name of an option
 abbrev pub are_options : List (List ℕ) → Bool
 are_options words =
-  list_all (λ k. is_option (name_of words k)) (range_with_len 0 (pair_count words))
+    list_all (λ k. is_option (name_of words k)) (range_with_len 0 (pair_count words))
 
 -- the pairs among the first n that begin with this name
 abbrev pub pairs_before : List ℕ → List (List ℕ) → ℕ → List ℕ
@@ -78,7 +78,7 @@ number_by setting words Again = None
 -- number in its range
 abbrev pub number_for : Setting → List (List ℕ) → Option ℕ
 number_for setting words =
-  number_by setting words (given_by (pairs_before setting.name words (pair_count words)))
+    number_by setting words (given_by (pairs_before setting.name words (pair_count words)))
 
 -- one pair more of the name
 abbrev pub with_one : Given → ℕ → Given

@@ -18,8 +18,13 @@ pub record Request : Type 0 where
 
 -- the same of a command
 abbrev pub request_of : Command → Request
-request_of command = record { action = command.action; core = command.core.now;
-  time = command.time.now; stoch = command.stoch.now; options = command.options }
+request_of command = record {
+  action = command.action;
+  core = command.core.now;
+  time = command.time.now;
+  stoch = command.stoch.now;
+  options = command.options;
+}
 
 -- what the first word asks to do
 abbrev pub action_of : List ℕ → Option Action
@@ -73,13 +78,18 @@ options_of words =
 
 -- the request of the words that ask to do this
 abbrev pub request_at : List (List ℕ) → Action → Options → Request
-request_at words action options = record { action = action; core = word_at words 1;
-  time = word_at words 2; stoch = word_at words 3; options = options }
+request_at words action options = record {
+  action = action;
+  core = word_at words 1;
+  time = word_at words 2;
+  stoch = word_at words 3;
+  options = options;
+}
 
 -- what the words ask for; none where they aren't well formed
 abbrev pub command_of : List (List ℕ) → Option Request
 command_of words =
     if is_command words
     then option_and_then (λ action. option_map (request_at words action) (options_of words))
-        (action_of (word_at words 0))
+    (action_of (word_at words 0))
     else None

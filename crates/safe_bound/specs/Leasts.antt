@@ -14,7 +14,7 @@ use Rattle.boxed_problem.specs.Data.{Problem}
 -- the least that a column adds to the objective over all whole numbers of a side
 abbrev pub least_on : ℤ → ℤ → Side → ℤ
 least_on line square s =
-  fold int_min (curve line square s.lower) (map (curve line square) (side_values s))
+    fold int_min (curve line square s.lower) (map (curve line square) (side_values s))
 
 -- a place of a side at which a column adds least
 pub record IsLeastAt (line square : ℤ) (s : Side) (place : ℤ) : Type 0 where

@@ -22,12 +22,12 @@ limit_number (Some limit) = limit
 -- the limit that a price pays for: the lower one for a positive price, else the upper one
 abbrev pub paid_limit : Limits → ℤ → ℤ
 paid_limit limits price =
-  if int_lt (pos 0) price then limit_number limits.lower else limit_number limits.upper
+    if int_lt (pos 0) price then limit_number limits.lower else limit_number limits.upper
 
 -- row i's price times the limit that it pays for
 abbrev pub limit_price : Problem → Prices → ℕ → ℤ
 limit_price b prices i =
-  number_at prices.values i *ℤ paid_limit (limits_at b.rows i) (number_at prices.values i)
+    number_at prices.values i *ℤ paid_limit (limits_at b.rows i) (number_at prices.values i)
 
 -- the sum, over the rows, of price times lower limit for positive prices and price times upper
 -- limit for negative ones
@@ -55,12 +55,12 @@ scaled_square b prices j = prices.scale *ℤ number_at b.square j
 -- price times activity
 abbrev pub reduced_least : Problem → Prices → List Side → ℕ → ℤ
 reduced_least b prices box j =
-  least_on (reduced_cost b prices j) (scaled_square b prices j) (side_at box j)
+    least_on (reduced_cost b prices j) (scaled_square b prices j) (side_at box j)
 
 -- the same over all columns, with the constant
 abbrev pub reduced_least_value : Problem → Prices → List Side → ℤ
 reduced_least_value b prices box =
-  (prices.scale *ℤ b.constant) +ℤ sum_below (length b.columns) (reduced_least b prices box)
+    (prices.scale *ℤ b.constant) +ℤ sum_below (length b.columns) (reduced_least b prices box)
 
 -- the scale times the bound, before it is rounded up
 abbrev pub price_total : Problem → Prices → List Side → ℤ
@@ -73,4 +73,4 @@ IsPriceBound b prices box v = IsCeiling (price_total b prices box) prices.scale 
 -- the sum, over the rows, of price times activity at a point
 abbrev pub priced_activity : Problem → Prices → List ℤ → ℤ
 priced_activity b prices x =
-  sum_below (length b.rows) (λ i. number_at prices.values i *ℤ activity b.entries x i)
+    sum_below (length b.rows) (λ i. number_at prices.values i *ℤ activity b.entries x i)

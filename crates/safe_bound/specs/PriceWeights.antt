@@ -11,9 +11,9 @@ use Rattle.boxed_problem.specs.declared.parts.Prices.{Prices}
 -- the magnitude of what an entry costs at any point of the box
 abbrev pub weight : Problem → Prices → Entry → ℕ
 weight b prices e = unsigned_abs (number_at prices.values e.row)
-  * (unsigned_abs e.value * reach (side_at b.columns e.column))
+    * (unsigned_abs e.value * reach (side_at b.columns e.column))
 
 -- the magnitude of what row i's limits add
 abbrev pub limit_weight : Problem → Prices → ℕ → ℕ
 limit_weight b prices i =
-  unsigned_abs (number_at prices.values i) * limits_size (limits_at b.rows i)
+    unsigned_abs (number_at prices.values i) * limits_size (limits_at b.rows i)

@@ -20,11 +20,11 @@ kept_cost b prices j = if reach (side_at b.columns j) == 0 then pos 0 else reduc
 -- column j's scaled square; 0 for a column whose box is the single 0, which adds nothing
 abbrev pub kept_square : Problem → Prices → ℕ → ℤ
 kept_square b prices j =
-  if reach (side_at b.columns j) == 0 then pos 0 else scaled_square b prices j
+    if reach (side_at b.columns j) == 0 then pos 0 else scaled_square b prices j
 
 -- the facts that a reduced problem keeps
 pub record IsReducedData (columns : List Side) (scale constant : ℤ)
-  (line square : List ℤ) : Type 0 where
+    (line square : List ℤ) : Type 0 where
   pub lines : length line ≡ length columns
   pub squares : length square ≡ length columns
   pub positive : pos 1 ≤ℤ scale

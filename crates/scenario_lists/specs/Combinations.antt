@@ -22,7 +22,7 @@ choices_of (e ∷ es) s = s / combinations es ∷ choices_of es (s % combination
 abbrev pub all_choices : List Element → List (List ℕ)
 all_choices [] = [] ∷ []
 all_choices (e ∷ es) = flat_map (λ choice. map (λ rest. choice ∷ rest) (all_choices es))
-  (range_with_len 0 (length e.realisations))
+    (range_with_len 0 (length e.realisations))
 
 -- what stands past the end of the elements, and of the realisations
 abbrev pub no_element : Element
@@ -42,7 +42,7 @@ period_at es k = (slice_index_or es k no_element).period
 -- the realisation that some choices choose of element k
 abbrev pub chosen_at : List Element → List ℕ → ℕ → Realisation
 chosen_at es choices k =
-  slice_index_or (realisations_at es k) (slice_index choices k) no_realisation
+    slice_index_or (realisations_at es k) (slice_index choices k) no_realisation
 
 -- a choice for each element, of a realisation that is there
 pub record AreChoices (es : List Element) (choices : List ℕ) : Type 0 where
@@ -53,13 +53,13 @@ pub record AreChoices (es : List Element) (choices : List ℕ) : Type 0 where
 abbrev pub weight_below : List Element → List ℕ → ℕ → ℕ
 weight_below es choices zero = 1
 weight_below es choices (suc n) =
-  weight_below es choices n * unsigned_abs (chosen_at es choices n).weight
+    weight_below es choices n * unsigned_abs (chosen_at es choices n).weight
 
 -- the entries of element k: those of the realisation, and those of the first one for places that it
 -- leaves out
 abbrev pub entries_at : List Element → List ℕ → ℕ → List StochEntry
 entries_at es choices k = (chosen_at es choices k).entries
-  ++ (slice_index_or (realisations_at es k) 0 no_realisation).entries
+    ++ (slice_index_or (realisations_at es k) 0 no_realisation).entries
 
 -- the entries of all elements
 abbrev pub entries_in : List Element → List ℕ → List StochEntry
@@ -74,7 +74,7 @@ choice_until es choices t k = if nat_le (period_at es k) t then slice_index choi
 abbrev pub mark_below : List Element → List ℕ → ℕ → ℕ → ℕ
 mark_below es choices t zero = 0
 mark_below es choices t (suc n) =
-  mark_below es choices t n * length (realisations_at es n) + choice_until es choices t n
+    mark_below es choices t n * length (realisations_at es n) + choice_until es choices t n
 
 -- the mark of some choices at stage t
 abbrev pub mark_in : List Element → List ℕ → ℕ → ℕ
@@ -83,4 +83,4 @@ mark_in es choices t = mark_below es choices t (length es)
 -- two combinations choose the same realisation in every element of a period at most t
 abbrev pub Agree : List Element → List ℕ → List ℕ → ℕ → Type 0
 Agree es choices others t =
-  (k : ℕ) → k < length es → period_at es k ≤ t → slice_index choices k ≡ slice_index others k
+    (k : ℕ) → k < length es → period_at es k ≤ t → slice_index choices k ≡ slice_index others k

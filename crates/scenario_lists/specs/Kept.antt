@@ -10,4 +10,4 @@ use Rattle.scenario_lists.specs.Distinct.{has_place}
 -- the places at hand are those of the entries
 abbrev pub ArePlaces : {V S : Type 0} → IndexMap StochPlace V S → List StochEntry → Type 0
 ArePlaces places items =
-  (place : StochPlace) → is_some (get same_place places place) ≡ has_place items place
+    (place : StochPlace) → is_some (get same_place places place) ≡ has_place items place

@@ -37,12 +37,14 @@ live_scenarios live stoch = map (live_scenario live) (scenarios_of stoch)
 -- the scenarios of all combinations so
 abbrev pub live_products : List Bool → List Element → List ScenarioData
 live_products live elements = map (λ s. live_scenario live (product_scenario_at elements s))
-  (range_with_len 0 (combinations elements))
+    (range_with_len 0 (combinations elements))
 
 -- a listed scenario beside some that have only entries that stay
 abbrev pub live_beside : List Bool → List ScenarioData → Branch → ScenarioData
-live_beside live made branch = record { weight = capped (unsigned_abs branch.weight);
-  entries = first_of_each (live_entries live branch.entries ++ inherited made branch.parent) }
+live_beside live made branch = record {
+  weight = capped (unsigned_abs branch.weight);
+  entries = first_of_each (live_entries live branch.entries ++ inherited made branch.parent);
+}
 
 abbrev pub with_live : List Bool → List ScenarioData → Branch → List ScenarioData
 with_live live made branch = made ++ live_beside live made branch ∷ []

@@ -21,7 +21,7 @@ count_of (Scenarios branches) = length branches
 -- each scenario's parent is the core or comes before it
 abbrev pub HaveParents : List Branch → Type 0
 HaveParents branches =
-  (k : ℕ) → k < length branches → IsEarlier (slice_index_or branches k no_branch).parent k
+    (k : ℕ) → k < length branches → IsEarlier (slice_index_or branches k no_branch).parent k
 
 abbrev pub HaveAllParents : Stoch → Type 0
 HaveAllParents (Product elements) = Unit {0}
@@ -33,8 +33,10 @@ weight_in elements choices = weight_below elements choices (length elements)
 
 -- the scenario of some choices
 abbrev pub scenario_in : List Element → List ℕ → ScenarioData
-scenario_in elements choices = record { weight = capped (weight_in elements choices);
-  entries = first_of_each (entries_in elements choices) }
+scenario_in elements choices = record {
+  weight = capped (weight_in elements choices);
+  entries = first_of_each (entries_in elements choices);
+}
 
 -- the scenario of combination s, and the scenarios of all combinations
 abbrev pub product_scenario_at : List Element → ℕ → ScenarioData
@@ -42,7 +44,7 @@ product_scenario_at elements s = scenario_in elements (choices_of elements s)
 
 abbrev pub product_scenarios : List Element → List ScenarioData
 product_scenarios elements =
-  map (product_scenario_at elements) (range_with_len 0 (combinations elements))
+    map (product_scenario_at elements) (range_with_len 0 (combinations elements))
 
 -- what stands past the end of the scenarios
 abbrev pub no_scenario : ScenarioData
@@ -55,8 +57,10 @@ inherited made (Some parent) = (slice_index_or made parent no_scenario).entries
 
 -- a listed scenario: its own entries, and its parent's for other places
 abbrev pub scenario_beside : List ScenarioData → Branch → ScenarioData
-scenario_beside made branch = record { weight = capped (unsigned_abs branch.weight);
-  entries = first_of_each (branch.entries ++ inherited made branch.parent) }
+scenario_beside made branch = record {
+  weight = capped (unsigned_abs branch.weight);
+  entries = first_of_each (branch.entries ++ inherited made branch.parent);
+}
 
 -- one more scenario
 abbrev pub with_branch : List ScenarioData → Branch → List ScenarioData
@@ -80,7 +84,7 @@ inherited_mark made (Some parent) t = mark_of made t parent
 -- least, before it its parent's
 abbrev pub mark_beside : List (List ℕ) → Branch → ℕ → ℕ
 mark_beside made branch t =
-  if nat_le (max 2 branch.period) t then length made + 1 else inherited_mark made branch.parent t
+    if nat_le (max 2 branch.period) t then length made + 1 else inherited_mark made branch.parent t
 
 -- the marks of a scenario at all stages
 abbrev pub marks_beside : ℕ → List (List ℕ) → Branch → List ℕ
@@ -97,11 +101,11 @@ branch_marks stages branches = fold (with_marks stages) [] branches
 -- the marks of combination s at all stages, and those of all combinations
 abbrev pub product_marks_at : ℕ → List Element → ℕ → List ℕ
 product_marks_at stages elements s =
-  map (mark_in elements (choices_of elements s)) (range_with_len 1 stages)
+    map (mark_in elements (choices_of elements s)) (range_with_len 1 stages)
 
 abbrev pub product_marks : ℕ → List Element → List (List ℕ)
 product_marks stages elements =
-  map (product_marks_at stages elements) (range_with_len 0 (combinations elements))
+    map (product_marks_at stages elements) (range_with_len 0 (combinations elements))
 
 -- the marks of all scenarios of a stoch file
 abbrev pub marks_of : ℕ → Stoch → List (List ℕ)

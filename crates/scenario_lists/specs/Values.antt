@@ -14,7 +14,7 @@ use Rattle.scenario_lists.specs.ScenarioList.{branch_scenarios, no_scenario}
 -- the value of a place in scenario k of a file that lists them
 abbrev pub listed_value : List Branch → StochPlace → ℕ → Option Decimal
 listed_value branches place k =
-  value_at_place place (slice_index_or (branch_scenarios branches) k no_scenario).entries
+    value_at_place place (slice_index_or (branch_scenarios branches) k no_scenario).entries
 
 -- the value of a place that a scenario takes over: its parent's; the core gives none
 abbrev pub parent_value : List Branch → StochPlace → Option ℕ → Option Decimal
@@ -25,7 +25,7 @@ parent_value branches place (Some parent) = listed_value branches place parent
 -- else of the first one
 abbrev pub chosen_value : List Element → List ℕ → StochPlace → ℕ → Option Decimal
 chosen_value elements choices place k =
-  value_in (slice_index_or elements k no_element) (chosen_at elements choices k) place
+    value_in (slice_index_or elements k no_element) (chosen_at elements choices k) place
 
 -- the size of a realisation's weight, and the sum of an element's
 abbrev pub size_of : Realisation → ℕ

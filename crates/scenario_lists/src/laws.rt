@@ -16,7 +16,7 @@ ghost use Rattle.scenario_lists.specs.ScenarioList.{HaveAllParents, count_of, ma
 pub fn combinations_in_order()
     ensures { (elements : List Element) →
         map (choices_of elements) (range_with_len 0 (combinations elements))
-            ≡ all_choices elements }
+        ≡ all_choices elements }
 {}
 
 /// Two combinations have the same mark at a stage exactly where they choose the
@@ -43,6 +43,6 @@ pub fn marks_branch()
     ensures apart { (stages : ℕ) (stoch : Stoch) → 1 ≤ stages → HavePeriods stages stoch → (s u : ℕ)
         → s < count_of stoch → u < count_of stoch →
         mark_of (marks_of stages stoch) stages s ≡ mark_of (marks_of stages stoch) stages u
-            → s ≡ u }
+        → s ≡ u }
     ensures long { (stages : ℕ) (stoch : Stoch) → length (marks_of stages stoch) ≡ count_of stoch }
 {}

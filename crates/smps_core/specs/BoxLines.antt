@@ -22,12 +22,12 @@ upper_in lines j = upper_of (bounds_of lines).bounds j
 -- whether a line names column j, by the names of the lines before it
 abbrev pub names_column : List TextLine → TextLine → ℕ → Bool
 names_column before line j =
-  option_map_or (λ i. i == j) (number_of (column_word line) (column_names_of before)) false
+    option_map_or (λ i. i == j) (number_of (column_word line) (column_names_of before)) false
 
 -- whether it is a data line of BOUNDS, of the used set, and names column j
 abbrev pub is_bound_of : List TextLine → TextLine → ℕ → Bool
 is_bound_of before line j = is_within is_bounds (section_of before) line
-  && is_used (bound_set_of before) (bound_set line) && names_column before line j
+    && is_used (bound_set_of before) (bound_set line) && names_column before line j
 
 -- what the kind and the value of a line say of the lower end and of the upper one
 abbrev pub lower_change : TextLine → EndChange
@@ -40,13 +40,13 @@ upper_change line = option_map_or (λ kind. upper_said kind (bound_value line)) 
 -- column that speaks of that end; else the end stays
 abbrev pub MovesLower : List TextLine → TextLine → ℕ → Type 0
 MovesLower before line j = lower_in (before ++ line ∷ []) j
-  ≡ (if is_bound_of before line j && speaks (lower_change line) then end_said (lower_change line)
-  else lower_in before j)
+    ≡ (if is_bound_of before line j && speaks (lower_change line) then end_said (lower_change line)
+    else lower_in before j)
 
 abbrev pub MovesUpper : List TextLine → TextLine → ℕ → Type 0
 MovesUpper before line j = upper_in (before ++ line ∷ []) j
-  ≡ (if is_bound_of before line j && speaks (upper_change line) then end_said (upper_change line)
-  else upper_in before j)
+    ≡ (if is_bound_of before line j && speaks (upper_change line) then end_said (upper_change line)
+    else upper_in before j)
 
 -- a column of the data has the ends that these lines come to
 abbrev pub HasEnds : List TextLine → CoreColumn → ℕ → Type 0

@@ -20,7 +20,7 @@ use Rattle.core_lines.specs.declared.cells.RowValue.{RowValue}
 -- constraint rows from 1
 abbrev pub side_said : List RowValue → ℕ → Option Decimal
 side_said values place =
-  latest (λ (v : RowValue). v.row == place) (λ (v : RowValue). Some v.value) None values
+    latest (λ (v : RowValue). v.row == place) (λ (v : RowValue). Some v.value) None values
 
 -- the cost that the lines say of a column
 abbrev pub cost_of : List Cell → ℕ → Option Decimal
@@ -64,7 +64,7 @@ entries_of cells = map entry_of (filter is_entry cells)
 -- ascending by column, and by row within a column
 abbrev pub Ascend : List CoreEntry → Type 0
 Ascend entries =
-  (k : ℕ) → k + 1 < length entries → ComesBefore (entry_at entries k) (entry_at entries (k + 1))
+    (k : ℕ) → k + 1 < length entries → ComesBefore (entry_at entries k) (entry_at entries (k + 1))
 
 -- the same entries in ascending order
 abbrev pub AreEntriesOf : List Cell → List CoreEntry → Type 0

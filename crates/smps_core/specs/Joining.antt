@@ -26,7 +26,7 @@ pub record ArePartsOf (said : Before) (parts : Parts) : Type 0 where
 
 -- a core has these parts
 pub record HasParts (core : Core) (lists : Lists) (words : Words)
-  (names_of_rows names_of_columns : List (List ℕ)) : Type 0 where
+    (names_of_rows names_of_columns : List (List ℕ)) : Type 0 where
   pub rows : core.rows ≡ lists.rows
   pub columns : core.columns ≡ lists.columns
   pub entries : core.entries ≡ lists.entries

@@ -19,7 +19,7 @@ BothWays P Q = (P → Q) × (Q → P)
 -- a line behind others is a column's line of COLUMNS
 abbrev pub IsColumnsLine : List TextLine → TextLine → Type 0
 IsColumnsLine before line =
-  (is_within is_columns (section_of before) line ≡ true) × (is_marker line ≡ false)
+    (is_within is_columns (section_of before) line ≡ true) × (is_marker line ≡ false)
 
 -- the pair at field k of a line has the row, the column, the number and the line's number of a
 -- cell, by these rows and names of columns
@@ -33,7 +33,7 @@ HasPairAt rows names line k c =
 -- the first pair of a line, or the second
 abbrev pub HasPair : RowsSaid → List (List ℕ) → TextLine → Cell → Type 0
 HasPair rows names line c =
-  HasPairAt rows names line 1 c ⊎ ((has_second line ≡ true) × HasPairAt rows names line 3 c)
+    HasPairAt rows names line 1 c ⊎ ((has_second line ≡ true) × HasPairAt rows names line 3 c)
 
 -- line n, from 0, is a column's line of COLUMNS and has the pair of a cell, by these rows and the
 -- names of the columns of the whole file

@@ -20,16 +20,16 @@ is_constraint (Some (Some kind)) = true
 -- kind
 abbrev pub row_given : List TextLine → TextLine → Option (List ℕ)
 row_given before line = if is_within is_rows (section_of before) line
-  && is_constraint (row_kind_named (field 0 line)) then Some (field 1 line) else None
+    && is_constraint (row_kind_named (field 0 line)) then Some (field 1 line) else None
 
 -- the name that it gives to a column, if it is a line of COLUMNS and no marker
 abbrev pub column_given : List TextLine → TextLine → Option (List ℕ)
 column_given before line = if is_within is_columns (section_of before) line && not (is_marker line)
-  then Some (field 0 line) else None
+    then Some (field 0 line) else None
 
 -- the line at place n gives a name, and no line before it does
 pub record IsFirstOf (gives : List TextLine → TextLine → Option (List ℕ)) (lines : List TextLine)
-  (name : List ℕ) (n : ℕ) : Type 0 where
+    (name : List ℕ) (n : ℕ) : Type 0 where
   pub there : n < length lines
   pub given : gives (take n lines) (slice_index_or lines n no_line) ≡ Some name
   pub fresh : (m : ℕ) → m < n → gives (take m lines) (slice_index_or lines m no_line) ≢ Some name
@@ -37,7 +37,7 @@ pub record IsFirstOf (gives : List TextLine → TextLine → Option (List ℕ)) 
 -- names are distinct, each has a line that is the first to give it, these lines stand in the order
 -- of the names, and each name that a line gives is there
 pub record AreInOrder (gives : List TextLine → TextLine → Option (List ℕ)) (lines : List TextLine)
-  (names : List (List ℕ)) : Type 0 where
+    (names : List (List ℕ)) : Type 0 where
   pub distinct : AreDistinct names
   pub place : ℕ → ℕ
   pub first : (j : ℕ) → j < length names

@@ -18,7 +18,7 @@ row_with kinds rights ranges i = record {
 
 -- the column of number j by the ends, the flags and the costs
 abbrev pub column_with : List (Option ℤ) → List (Option ℤ) → List Bool → List (Option Decimal) → ℕ
-  → CoreColumn
+    → CoreColumn
 column_with lowers uppers flags costs j = record {
   lower = slice_index_or lowers j None;
   upper = slice_index_or uppers j None;

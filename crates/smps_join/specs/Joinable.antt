@@ -10,7 +10,7 @@ use Rattle.sp_model.specs.declared.program.Options.{Options}
 
 -- options in their ranges, a core with a column, and a stoch file beside it
 pub record CanJoin (core : Core) (periods : Periods) (stoch : Stoch)
-  (options : Options) : Type 0 where
+    (options : Options) : Type 0 where
   pub options_fit : OptionFacts options
   pub some_columns : 0 < length core.columns
   pub stoch_fits : StochFacts core periods stoch

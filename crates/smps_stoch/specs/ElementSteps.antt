@@ -19,19 +19,19 @@ abbrev pub GrowsDrafts : List Draft → Owned → List Draft → Type 0
 GrowsDrafts before owned after =
     (realisations : List Chosen) (entries : List Owned) (n : ℕ) →
     before ≡ drafts_with realisations entries n
-        → after ≡ drafts_with realisations (entries ++ owned ∷ []) n
+    → after ≡ drafts_with realisations (entries ++ owned ∷ []) n
 
 -- the first n scenarios with these entries
 abbrev pub branches_with : ℕ → List ScenarioHead → List Owned → ℕ → List Branch
 branches_with places scenarios entries n =
-  map (branch_at places scenarios entries) (range_with_len 0 n)
+    map (branch_at places scenarios entries) (range_with_len 0 n)
 
 -- one more entry goes to its scenario
 abbrev pub GrowsBranches : List Branch → Owned → List Branch → Type 0
 GrowsBranches before owned after =
     (places : ℕ) (scenarios : List ScenarioHead) (entries : List Owned) (n : ℕ) →
     before ≡ branches_with places scenarios entries n
-        → after ≡ branches_with places scenarios (entries ++ owned ∷ []) n
+    → after ≡ branches_with places scenarios (entries ++ owned ∷ []) n
 
 -- the greatest number of places of each element's probabilities
 abbrev pub places_by : List Draft → ℕ → List ℕ
@@ -41,12 +41,12 @@ places_by drafts count = map (λ k. places_of (drafts_at drafts k)) (range_with_
 abbrev pub GrowsPlaces : List ℕ → Draft → List ℕ → Type 0
 GrowsPlaces before draft after =
     (drafts : List Draft) (n : ℕ) → before ≡ places_by drafts n
-        → after ≡ places_by (drafts ++ draft ∷ []) n
+    → after ≡ places_by (drafts ++ draft ∷ []) n
 
 -- the number of places of a realisation's element is enough for it, and at most the greatest
 abbrev pub AreEnough : List ℕ → Draft → Type 0
 AreEnough places draft =
-  draft.element < length places → draft.probability.places ≤ slice_index places draft.element
+    draft.element < length places → draft.probability.places ≤ slice_index places draft.element
 
 abbrev pub AreFew : List ℕ → Draft → Type 0
 AreFew places draft = draft.element < length places → slice_index places draft.element ≤ max_places
@@ -61,11 +61,11 @@ element_so_far periods places drafts k = record {
 
 abbrev pub elements_so_far : List ℕ → List ℕ → List Draft → ℕ → List Element
 elements_so_far periods places drafts n =
-  map (element_so_far periods places drafts) (range_with_len 0 n)
+    map (element_so_far periods places drafts) (range_with_len 0 n)
 
 -- one more realisation goes to its element
 abbrev pub GrowsElements : List ℕ → List Element → Draft → List Element → Type 0
 GrowsElements places before draft after =
     (periods : List ℕ) (drafts : List Draft) (n : ℕ) →
     before ≡ elements_so_far periods places drafts n
-        → after ≡ elements_so_far periods places (drafts ++ draft ∷ []) n
+    → after ≡ elements_so_far periods places (drafts ++ draft ∷ []) n

@@ -57,7 +57,7 @@ IsOneElement said chosen i j =
 abbrev pub AreInOrder : List Chosen → Type 0
 AreInOrder chosen =
     (i k : ℕ) → i < length chosen → k < chosen_element chosen i
-        → (j : ℕ) × (j < i) × (chosen_element chosen j ≡ k)
+    → (j : ℕ) × (j < i) × (chosen_element chosen j ≡ k)
 
 -- each line that says something of an element begins one realisation, of the element of its place
 -- or block
@@ -69,7 +69,7 @@ pub record AreByElement (said : List Saying) (chosen : List Chosen) : Type 0 whe
 -- the value of a place in the entries of a realisation or scenario, if they have one
 abbrev pub value_at_place : StochPlace → List StochEntry → Option Decimal
 value_at_place place entries =
-  option_map (λ e. e.value) (find (λ e. same_place e.place place) entries)
+    option_map (λ e. e.value) (find (λ e. same_place e.place place) entries)
 
 -- the entries of an element's first realisation
 abbrev pub first_entries : Element → List StochEntry
@@ -80,4 +80,4 @@ first_entries element = (slice_index_or element.realisations 0 no_realisation).e
 abbrev pub value_in : Element → Realisation → StochPlace → Option Decimal
 value_in element realisation place =
     option_or (value_at_place place realisation.entries)
-        (value_at_place place (first_entries element))
+    (value_at_place place (first_entries element))

@@ -34,7 +34,7 @@ IsUsed realisations k =
 
 -- the elements: each has a later period and a realisation
 pub record AreElements (periods : Periods) (realisations : List Chosen) (starts : List ℕ)
-  (sources : List Source) : Type 0 where
+    (sources : List Source) : Type 0 where
   pub probable : All (λ chosen. IsProbable chosen.probability) realisations
   pub later : All (IsLaterPeriod periods) starts
   pub used : (k : ℕ) → k < length starts → IsUsed realisations k
@@ -42,7 +42,7 @@ pub record AreElements (periods : Periods) (realisations : List Chosen) (starts 
 
 -- the scenarios: each has its parent before it
 pub record AreHeads (periods : Periods) (scenarios : List ScenarioHead)
-  (names : List (List ℕ)) : Type 0 where
+    (names : List (List ℕ)) : Type 0 where
   pub heads : All (IsHead periods) scenarios
   pub parents : (k : ℕ) → k < length scenarios
       → IsEarlier (slice_index_or scenarios k no_scenario).parent k
@@ -63,7 +63,7 @@ chosen_element realisations k = (slice_index_or realisations k no_choice).elemen
 -- the entries: each is of a realisation or a scenario that is there, and of that realisation's
 -- element
 pub record AreOwned (core : Core) (realisations : List Chosen) (scenarios : List ScenarioHead)
-  (entries : List Owned) : Type 0 where
+    (entries : List Owned) : Type 0 where
   pub each : All (λ owned. IsEntry core owned.entry) entries
   pub apart : AllPairs Follows entries
   pub there : All (λ owned. owned.choice < length realisations + length scenarios) entries

@@ -34,12 +34,15 @@ no_realisation = record { weight = pos 0; entries = [] }
 abbrev pub draft_at : List Chosen → List Owned → ℕ → Draft
 draft_at realisations entries k =
     let chosen = slice_index_or realisations k no_choice in
-    record { element = chosen.element; probability = chosen.probability;
-        entries = entries_at entries k }
+    record {
+      element = chosen.element;
+      probability = chosen.probability;
+      entries = entries_at entries k;
+    }
 
 abbrev pub drafts_of : List Chosen → List Owned → List Draft
 drafts_of realisations entries =
-  map (draft_at realisations entries) (range_with_len 0 (length realisations))
+    map (draft_at realisations entries) (range_with_len 0 (length realisations))
 
 -- the realisations of element k
 abbrev pub drafts_at : List Draft → ℕ → List Draft
@@ -51,8 +54,10 @@ places_of drafts = common_places (map (λ draft. draft.probability) drafts)
 
 -- a realisation's weight is its probability times a power of ten
 abbrev pub weighed_at : ℕ → Draft → Realisation
-weighed_at places draft = record { weight = scaled_to draft.probability places;
-  entries = draft.entries }
+weighed_at places draft = record {
+  weight = scaled_to draft.probability places;
+  entries = draft.entries;
+}
 
 -- element k: its realisations are weighed by one power of ten, the least by which all are whole
 abbrev pub element_at : List ℕ → List Draft → ℕ → Element
@@ -83,11 +88,11 @@ scenario_places scenarios = common_places (map (λ scenario. scenario.probabilit
 abbrev pub branches_of : List ScenarioHead → List Owned → List Branch
 branches_of scenarios entries =
     map (branch_at (scenario_places scenarios) scenarios entries)
-        (range_with_len 0 (length scenarios))
+    (range_with_len 0 (length scenarios))
 
 -- scenarios where there is a scenario line, else elements
 abbrev pub stoch_of : Before → Stoch
 stoch_of b =
     if length b.scenarios == 0
-        then Product (elements_of b.periods (drafts_of b.realisations b.entries))
+    then Product (elements_of b.periods (drafts_of b.realisations b.entries))
     else Scenarios (branches_of b.scenarios b.entries)

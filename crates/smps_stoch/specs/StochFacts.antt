@@ -70,8 +70,8 @@ pub record ElementFacts (core : Core) (periods : Periods) (element : Element) : 
 -- no place is in two elements
 abbrev pub AreApart : Element → Element → Type 0
 AreApart element other = All
-  (λ one. All (λ second. ShareNoPlace one.entries second.entries)
-  other.realisations) element.realisations
+    (λ one. All (λ second. ShareNoPlace one.entries second.entries)
+    other.realisations) element.realisations
 
 pub record ProductFacts (core : Core) (periods : Periods) (elements : List Element) : Type 0 where
   pub each : All (ElementFacts core periods) elements

@@ -20,7 +20,7 @@ fn empty_branches(
     requires probable { All (λ scenario. IsProbable scenario.probability) scenarios.now }
     ensures { IfOk result
         (λ branches. branches.items
-            ≡ branches_with places scenarios.now [] (length scenarios.now)) }
+        ≡ branches_with places scenarios.now [] (length scenarios.now)) }
 {
     let mut branches = Vec::new(alloc);
     for scenario in scenarios {

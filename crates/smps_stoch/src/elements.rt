@@ -43,7 +43,7 @@ fn places_by_element(alloc: Global, count: usize, drafts: &[Draft]) -> Result<Ve
 fn empty_elements(alloc: Global, places: &[u8], periods: &[u8]) -> Result<Vec<Element>, AllocError>
     ensures { IfOk result
         (λ elements. elements.items
-            ≡ elements_so_far periods.now places.now [] (length periods.now)) }
+        ≡ elements_so_far periods.now places.now [] (length periods.now)) }
 {
     let mut elements = Vec::new(alloc);
     for period in periods {

@@ -42,8 +42,8 @@ pub fn last_entries_tell_all()
 pub fn values_are_own_or_first()
     ensures own { (core : Core) (entries : List StochEntry) (entry : StochEntry) →
         EntryFacts core entries → Contains entries entry
-            → value_at_place entry.place entries ≡ Some entry.value }
+        → value_at_place entry.place entries ≡ Some entry.value }
     ensures first { (element : Element) (realisation : Realisation) (place : StochPlace) →
         value_at_place place realisation.entries ≡ None
-            → value_in element realisation place ≡ value_at_place place (first_entries element) }
+        → value_in element realisation place ≡ value_at_place place (first_entries element) }
 {}

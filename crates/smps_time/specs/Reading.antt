@@ -56,18 +56,18 @@ Refuses line fault Memory = (line.header ≡ false) × (fault ≡ None)
 -- a step over a line: it has a fault, or it is added
 abbrev pub Steps : CoreNames → Before → TextLine → Result Bool TimeFault → Before → Type 0
 Steps core before line (Ok ended) after =
-  (line_fault core before line ≡ None) × GoesTo core before line after ended
+    (line_fault core before line ≡ None) × GoesTo core before line after ended
 Steps core before line (Err fault) after = Refuses line (line_fault core before line) fault
 
 -- the same of the reader itself, over a line of the file
 abbrev pub StepsOver : Core → FileLine → Reading → Result Bool TimeFault → Reading → Type 0
 StepsOver core line old result new =
-  Steps (names_of core) (before_in old) (text_of line) result (before_in new)
+    Steps (names_of core) (before_in old) (text_of line) result (before_in new)
 
 -- a pair of numbers is the column and the place that a line names
 abbrev pub IsPeriodOf : CoreNames → TextLine → ℕ × ℕ → Type 0
 IsPeriodOf core line period =
-  (column_named core line ≡ Some period.0) × (place_named core line ≡ Some period.1)
+    (column_named core line ≡ Some period.0) × (place_named core line ≡ Some period.1)
 
 -- a period may begin with this column and place, which are those of a core
 pub record MayBegin (before : Before) (period : ℕ × ℕ) : Type 0 where
@@ -87,12 +87,12 @@ added core lines = added_from core (before_of core []) lines
 -- what the reader answers: all up to the end, or the first fault; lines ask for memory where there
 -- are some
 abbrev pub Reads : List TextLine → Outcome TextLine TimeKind Before → Result Reading TimeFault
-  → Type 0
+    → Type 0
 Reads lines outcome (Ok reading) = outcome ≡ Ended (before_in reading)
 Reads lines outcome (Err fault) =
-  Fails (0 < length lines) fault (answer_of periods_in (last_number lines) NoEnd outcome)
+    Fails (0 < length lines) fault (answer_of periods_in (last_number lines) NoEnd outcome)
 
 -- the same for the lines of the file with these bytes
 abbrev pub ReadsLines : Core → List ℕ → List Line → Result Reading TimeFault → Type 0
 ReadsLines core bytes lines result =
-  Reads (text_lines bytes lines) (added (names_of core) (text_lines bytes lines)) result
+    Reads (text_lines bytes lines) (added (names_of core) (text_lines bytes lines)) result

@@ -16,8 +16,11 @@ use Rattle.smps_time.specs.declared.time_fault.TimeFault.TheVariants.{At, Memory
 
 -- the names of a core
 abbrev pub names_of : Core → CoreNames
-names_of core = record { objective = core.objective; rows = core.row_names;
-  columns = core.column_names }
+names_of core = record {
+  objective = core.objective;
+  rows = core.row_names;
+  columns = core.column_names;
+}
 
 -- the data of periods, without their facts
 pub record PeriodsData : Type 0 where
@@ -34,8 +37,11 @@ rows_at places = map (λ place. place - 1) places
 
 -- the periods that lines name
 abbrev pub periods_in : Before → PeriodsData
-periods_in before = record { names = before.names; columns = before.columns;
-  rows = rows_at before.places }
+periods_in before = record {
+  names = before.names;
+  columns = before.columns;
+  rows = rows_at before.places;
+}
 
 -- each line judged by the lines before it
 abbrev pub time_outcome : CoreNames → List TextLine → Outcome TextLine TimeKind (List TextLine)
@@ -44,11 +50,11 @@ time_outcome core lines = outcome (fault_after core) is_end [] lines
 -- what the lines of a time file mean: its periods, or the number and the kind of its first fault
 abbrev pub lines_meaning : CoreNames → List TextLine → Result PeriodsData (ℕ × TimeKind)
 lines_meaning core lines = answer_of periods_in (last_number lines) NoEnd
-  (seen_by (before_of core) (time_outcome core lines))
+    (seen_by (before_of core) (time_outcome core lines))
 
 -- the same for what the file is read as; no file is read as want of memory
 abbrev pub read_meaning : CoreNames → List ℕ → Result (List Line) LineFault
-  → Result PeriodsData (ℕ × TimeKind)
+    → Result PeriodsData (ℕ × TimeKind)
 read_meaning core bytes (Ok found) = lines_meaning core (text_lines bytes found)
 read_meaning core bytes (Err (lines.NotAscii line)) = Err (line, NotAscii)
 read_meaning core bytes (Err (lines.TooLong line)) = Err (line, LongLine)

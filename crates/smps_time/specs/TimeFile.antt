@@ -27,7 +27,7 @@ column_named core line = number_of (field 0 line) core.columns
 -- the place of the row that a line names: the objective's is 0, and constraint rows count from 1
 abbrev pub place_named : CoreNames → TextLine → Option ℕ
 place_named core line = if bytes_eq (field 1 line) core.objective then Some 0
-  else option_map (λ row. row + 1) (number_of (field 1 line) core.rows)
+    else option_map (λ row. row + 1) (number_of (field 1 line) core.rows)
 
 -- what lines say
 pub record Before : Type 0 where
@@ -71,8 +71,11 @@ period_fault core before line = first_true (
     ∷ (is_none (column_named core line), Unknown)
     ∷ (is_none (place_named core line), Unknown)
     ∷ (is_some (number_of (field 2 line) before.names), Twice)
-    ∷ (not (is_in_order before (unwrap_or (column_named core line) 0)
-        (unwrap_or (place_named core line) 0)), Order)
+    ∷ (
+      not (is_in_order before (unwrap_or (column_named core line) 0)
+          (unwrap_or (place_named core line) 0)),
+      Order,
+    )
     ∷ (nat_le max_periods (length before.names), Limit)
     ∷ [])
 
@@ -99,7 +102,7 @@ header_fault before line =
 -- the first fault of a line, judged by the lines before it
 abbrev pub line_fault : CoreNames → Before → TextLine → Option TimeKind
 line_fault core before line =
-  if line.header then header_fault before line else period_fault core before line
+    if line.header then header_fault before line else period_fault core before line
 
 -- the same, judged by the lines themselves
 abbrev pub fault_after : CoreNames → List TextLine → TextLine → Option TimeKind

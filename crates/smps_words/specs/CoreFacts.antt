@@ -50,7 +50,7 @@ ComesBefore e f = (e.column ≤ f.column) × (e.column ≡ f.column → e.row < 
 
 -- the facts of a core
 pub record CoreFacts (rows : List CoreRow) (columns : List CoreColumn) (entries : List CoreEntry)
-  (constant : Decimal) (row_names column_names : List (List ℕ)) : Type 0 where
+    (constant : Decimal) (row_names column_names : List (List ℕ)) : Type 0 where
   -- there are few rows and columns, and each has a name
   pub few_rows : length rows ≤ max_rows
   pub few_columns : length columns ≤ max_columns

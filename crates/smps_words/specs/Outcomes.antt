@@ -17,17 +17,17 @@ judged None false line after later = later
 
 -- line by line, each judged by the lines before it
 abbrev pub outcome : {L K : Type 0} → (List L → L → Option K) → (L → Bool) → List L → List L
-  → Outcome L K (List L)
+    → Outcome L K (List L)
 outcome fault ends before [] = Endless
 outcome fault ends before (line ∷ rest) = judged (fault before line) (ends line) line
-  (before ++ line ∷ []) (outcome fault ends (before ++ line ∷ []) rest)
+    (before ++ line ∷ []) (outcome fault ends (before ++ line ∷ []) rest)
 
 -- the same where each line is judged by a state that the lines before it have made
 abbrev pub folded : {L K B : Type 0} → (B → L → Option K) → (L → Bool) → (B → L → B) → B → List L
-  → Outcome L K B
+    → Outcome L K B
 folded fault ends next state [] = Endless
 folded fault ends next state (line ∷ rest) = judged (fault state line) (ends line) line
-  (next state line) (folded fault ends next (next state line) rest)
+    (next state line) (folded fault ends next (next state line) rest)
 
 -- what the lines up to the end say, in place of the lines
 abbrev pub seen_by : {L K B C : Type 0} → (B → C) → Outcome L K B → Outcome L K C

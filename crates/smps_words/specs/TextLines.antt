@@ -14,8 +14,11 @@ pub record TextLine : Type 0 where
 
 -- a line of the file with these bytes
 abbrev pub text_line : List ℕ → Line → TextLine
-text_line bytes line = record { number = line.number; header = line.header;
-  fields = map (span_text bytes) line.fields }
+text_line bytes line = record {
+  number = line.number;
+  header = line.header;
+  fields = map (span_text bytes) line.fields;
+}
 
 abbrev pub text_of : FileLine → TextLine
 text_of line = text_line line.bytes.now line.line.now

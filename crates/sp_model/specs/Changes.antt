@@ -50,7 +50,7 @@ stands_at e fs k = nat_lt k (length fs) && is_at (slice_index_or fs k no_entry) 
 -- an entry in the order of columns and rows: over the one of its place, else in between
 abbrev pub put_entry : Entry → List Entry → List Entry
 put_entry e fs = if stands_at e fs (place_of e fs) then slice_set fs (place_of e fs) e
-  else insert fs (place_of e fs) e
+    else insert fs (place_of e fs) e
 
 -- entries put in their places one after another, each later one over an earlier one of its place
 abbrev pub put_entries : List Entry → List Entry → List Entry
@@ -80,9 +80,9 @@ cells_of (c ∷ cs) = cell_of c ++ cells_of cs
 abbrev pub with_change : Data → Change → Data
 with_change d (change.Cost column value) = record d { costs = slice_set d.costs column value }
 with_change d (change.Cell row column value) =
-  record d { entries = put_entry (record { row = row; column = column; value = value }) d.entries }
+    record d { entries = put_entry (record { row = row; column = column; value = value }) d.entries }
 with_change d (change.Limits row lower upper) =
-  record d { limits = slice_set d.limits row (record { lower = lower; upper = upper }) }
+    record d { limits = slice_set d.limits row (record { lower = lower; upper = upper }) }
 
 -- the data of a scenario: the core's with all changes of the scenario
 unfoldable pub data_of : Program → Scenario → Data

@@ -9,8 +9,11 @@ use Rattle.sp_model.specs.declared.program.Change.TheVariants as change
 
 -- the data of a draft
 abbrev pub data_in : Draft → Data
-data_in draft = record { costs = draft.costs.items; limits = draft.limits.items;
-  entries = draft.entries.items }
+data_in draft = record {
+  costs = draft.costs.items;
+  limits = draft.limits.items;
+  entries = draft.entries.items;
+}
 
 -- whether a cost that a change gives is of one of the columns
 abbrev pub has_column : ℕ → Change → Bool
@@ -35,4 +38,4 @@ abbrev pub with_limits : List Limits → Change → List Limits
 with_limits limits (change.Cost column value) = limits
 with_limits limits (change.Cell row column value) = limits
 with_limits limits (change.Limits row lower upper) =
-  slice_set limits row (record { lower = lower; upper = upper })
+    slice_set limits row (record { lower = lower; upper = upper })

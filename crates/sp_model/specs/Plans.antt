@@ -33,7 +33,7 @@ point_of plan s = slice_index_or plan.points s []
 abbrev pub AreNonanticipative : Run → Plan → Type 0
 AreNonanticipative run plan =
     (s u j : ℕ) → j < length run.program.columns → Share run.program.tree.nodes s u (stage_of run j)
-        → number_at (point_of plan s) j ≡ number_at (point_of plan u) j
+    → number_at (point_of plan s) j ≡ number_at (point_of plan u) j
 
 -- a plan: a feasible point for each scenario, and nonanticipativity
 pub record IsPlan (run : Run) (plan : Plan) : Type 0 where
@@ -59,12 +59,12 @@ IsOptimum run (Some cost) = (plan : Plan) × IsLeastCost run cost plan
 -- the multiplier of scenario s and column j; 0 for a column of the leaf stage
 abbrev pub multiplier_of : Run → Multipliers → ℕ → ℕ → ℤ
 multiplier_of run multipliers s j =
-  if nat_lt j run.nonleaf then number_at multipliers.values (s * run.nonleaf + j) else pos 0
+    if nat_lt j run.nonleaf then number_at multipliers.values (s * run.nonleaf + j) else pos 0
 
 -- the multipliers of a node sum to 0 in each nonleaf column of its stage
 abbrev pub BalancedAt : Run → Multipliers → Node → Type 0
 BalancedAt run multipliers n = (j : ℕ) → j < run.nonleaf → stage_of run j ≡ n.stage
-  → sum_z (λ s. multiplier_of run multipliers s j) n.scenarios ≡ pos 0
+    → sum_z (λ s. multiplier_of run multipliers s j) n.scenarios ≡ pos 0
 
 -- balanced multipliers: those of each node sum to 0
 abbrev pub AreBalanced : Run → Multipliers → Type 0
@@ -72,11 +72,13 @@ AreBalanced run multipliers = All (λ n. BalancedAt run multipliers n) run.progr
 
 -- a problem whose costs are raised by some prices, column by column
 abbrev pub with_prices : Problem → (ℕ → ℤ) → Problem
-with_prices problem prices = record problem { line = map (λ j. number_at problem.line j +ℤ prices j)
-  (range_with_len 0 (length problem.columns)) }
+with_prices problem prices = record problem {
+  line = map (λ j. number_at problem.line j +ℤ prices j)
+      (range_with_len 0 (length problem.columns));
+}
 
 -- the dual value: the sum of the least values of all scenarios with their multipliers as prices;
 -- none where one has no feasible point
 unfoldable pub dual_of : Run → Multipliers → Option ℤ
 dual_of run multipliers = sum_some (scenarios run)
-  (λ s. least_of (with_prices (problem_in run s) (multiplier_of run multipliers s)))
+    (λ s. least_of (with_prices (problem_in run s) (multiplier_of run multipliers s)))

@@ -47,7 +47,7 @@ least_of problem = option_map (λ (best : Best). best.value) (best_of problem)
 abbrev pub sum_some : ℕ → (ℕ → Option ℤ) → Option ℤ
 sum_some zero f = Some (pos 0)
 sum_some (suc n) f =
-  option_and_then (λ sum. option_map (λ least. sum +ℤ least) (f n)) (sum_some n f)
+    option_and_then (λ sum. option_map (λ least. sum +ℤ least) (f n)) (sum_some n f)
 
 -- the wait-and-see bound: the sum of the least values of all scenarios, each solved by itself; none
 -- where one has no feasible point

@@ -21,12 +21,12 @@ box_reach program j = reach (side_at (sides program) j)
 -- the greatest magnitude of a column's cost, in the core and in all scenarios
 abbrev pub cost_reach : Program → ℕ → ℕ
 cost_reach program j =
-  greatest (map (λ (d : Data). unsigned_abs (number_at d.costs j)) (all_data program))
+    greatest (map (λ (d : Data). unsigned_abs (number_at d.costs j)) (all_data program))
 
 -- the greatest row of some data: the greater magnitude of its limits and the parts of its entries
 abbrev pub data_reach : Program → Data → ℕ
 data_reach program d =
-  greatest (map (row_size (sides program) d.limits d.entries) (range_with_len 0 (length d.limits)))
+    greatest (map (row_size (sides program) d.limits d.entries) (range_with_len 0 (length d.limits)))
 
 -- the greatest row of the core and of all scenarios
 abbrev pub rows_reach : Program → ℕ
@@ -37,13 +37,13 @@ rows_reach program = greatest (map (data_reach program) (all_data program))
 abbrev pub line_reach : Program → Options → ℤ → ℕ
 line_reach program options total =
     unsigned_abs options.scale * unsigned_abs total
-        * (unsigned_abs program.constant
-        + size_below (length program.columns) (λ j. cost_reach program j * box_reach program j))
+    * (unsigned_abs program.constant
+    + size_below (length program.columns) (λ j. cost_reach program j * box_reach program j))
 
 -- how far a multiplier of a column moves at most from a put to the next
 abbrev pub step_reach : Program → Options → ℤ → ℕ → ℕ
 step_reach program options total j =
-  2 * unsigned_abs options.rho * unsigned_abs total * box_reach program j + length program.scenarios
+    2 * unsigned_abs options.rho * unsigned_abs total * box_reach program j + length program.scenarios
 
 -- the greatest magnitude of a multiplier of a column
 abbrev pub most_of : Program → Options → ℤ → ℕ → ℕ
@@ -53,7 +53,7 @@ most_of program options total j = (options.iterations + 2) * step_reach program 
 abbrev pub hedge_part : Program → Options → ℤ → ℕ → ℕ
 hedge_part program options total j =
     2 * most_of program options total j * box_reach program j + 3 * unsigned_abs options.rho
-        * unsigned_abs total * (box_reach program j * box_reach program j) + box_reach program j
+    * unsigned_abs total * (box_reach program j * box_reach program j) + box_reach program j
 
 -- the magnitude of the hedged objectives beyond the costs
 abbrev pub hedge_reach : Program → Options → ℤ → ℕ → ℕ
@@ -63,11 +63,11 @@ hedge_reach program options total nonleaf = size_below nonleaf (hedge_part progr
 abbrev pub raw_reach : Program → Options → ℤ → ℕ → ℕ
 raw_reach program options total nonleaf =
     2 * unsigned_abs options.rho * (unsigned_abs total * unsigned_abs total)
-        * max 1 (greatest (map (box_reach program) (range_with_len 0 nonleaf)))
+    * max 1 (greatest (map (box_reach program) (range_with_len 0 nonleaf)))
 
 -- no number of a run has a greater magnitude
 unfoldable pub run_reach : Program → Options → ℤ → ℕ → ℕ
 run_reach program options total nonleaf =
     2 * line_reach program options total + 2 * length program.scenarios
-        * hedge_reach program options total nonleaf + raw_reach program options total nonleaf
-        + rows_reach program
+    * hedge_reach program options total nonleaf + raw_reach program options total nonleaf
+    + rows_reach program

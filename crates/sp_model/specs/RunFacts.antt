@@ -73,7 +73,7 @@ is_same_place (change.Cost column value) (change.Cell row2 column2 value2) = fal
 is_same_place (change.Cost column value) (change.Limits row2 lower2 upper2) = false
 is_same_place (change.Cell row column value) (change.Cost column2 value2) = false
 is_same_place (change.Cell row column value) (change.Cell row2 column2 value2) =
-  (row == row2) && (column == column2)
+    (row == row2) && (column == column2)
 is_same_place (change.Cell row column value) (change.Limits row2 lower2 upper2) = false
 is_same_place (change.Limits row lower upper) (change.Cost column2 value2) = false
 is_same_place (change.Limits row lower upper) (change.Cell row2 column2 value2) = false

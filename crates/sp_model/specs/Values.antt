@@ -25,7 +25,7 @@ is_cell i j e = (e.column == j) && (e.row == i)
 -- the entry of row i and column j, 0 where there is none
 abbrev pub cell_in : Data → ℕ → ℕ → ℤ
 cell_in d i j =
-  unwrap_or (option_map (λ (e : Entry). e.value) (find (is_cell i j) d.entries)) (pos 0)
+    unwrap_or (option_map (λ (e : Entry). e.value) (find (is_cell i j) d.entries)) (pos 0)
 
 -- the limits of row i
 abbrev pub limits_in : Data → ℕ → Limits

@@ -12,7 +12,7 @@ ghost use Rattle.sp_model.specs.declared.program.Scenario.{Scenario};
 pub fn scenario_values()
     ensures given { (program : Program) (scenario : Scenario) → IsScenario program scenario →
         (k : ℕ) (d : Change) → k < length scenario.changes
-            → Has (data_of program scenario) (slice_index_or scenario.changes k d) }
+        → Has (data_of program scenario) (slice_index_or scenario.changes k d) }
     ensures kept { (program : Program) (scenario : Scenario) (place : Change)
         → IsUntouched scenario place →
         SameAt (data_of program scenario) (core_data program) place }

@@ -53,7 +53,7 @@ status_of_join join.Memory = status.Memory
 -- what a file says is a fault, and this is its status
 abbrev pub IsFaulty : {V : Type 0} → InputFile → Option (Result V (ℕ × InputKind)) → Status → Type 0
 IsFaulty file said status =
-  (fault : ℕ × InputKind) × (said ≡ Some (Err fault)) × (status ≡ input_at file fault)
+    (fault : ℕ × InputKind) × (said ≡ Some (Err fault)) × (status ≡ input_at file fault)
 
 -- the core file has a fault
 abbrev pub CoreFails : FileTable → Request → Status → Type 0
@@ -87,10 +87,10 @@ JoinFails table request status =
 abbrev pub IsCause : FileTable → Request → Status → Type 0
 IsCause table request status =
     CoreFails table request status ⊎ TimeFails table request status
-        ⊎ StochFails table request status ⊎ JoinFails table request status
+    ⊎ StochFails table request status ⊎ JoinFails table request status
 
 -- the data keep what their readers answer beside them: the core has a column, and the stoch file's
 -- data stand beside core and periods
 abbrev pub KeepsFacts : Triple → Type 0
 KeepsFacts triple =
-  (0 < length triple.core.columns) × StochFacts triple.core triple.periods triple.stoch
+    (0 < length triple.core.columns) × StochFacts triple.core triple.periods triple.stoch

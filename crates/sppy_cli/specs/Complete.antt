@@ -33,20 +33,20 @@ EndsBy action run _ = ⊥
 -- a request with a run ends by it
 abbrev pub EndsByRun : FileTable → Request → Status → Type 0
 EndsByRun table request status = (instance : Instance) × IsInstanceOf (Some table) request instance
-  × EndsBy request.action instance.run status
+    × EndsBy request.action instance.run status
 
 -- where the files make a run, and neither the shelf's count nor the sink's rises, the command ends
 -- by its run
 abbrev pub CompletesIn : FileTable → Request → ℕ → ℕ → ℕ → ℕ → Status → Type 0
 CompletesIn table request read read_after written written_after status =
     (instance : Instance) → IsInstanceOf (Some table) request instance → IsCalm read read_after
-        → IsCalm written written_after → EndsByRun table request status
+    → IsCalm written written_after → EndsByRun table request status
 
 -- the same where the files are told and the words are well formed
 abbrev pub Completes : Option FileTable → Option Request → ℕ → ℕ → ℕ → ℕ → Status → Type 0
 Completes files asked read read_after written written_after status =
     IfSome files (λ table. IfSome asked
-        (λ request. CompletesIn table request read read_after written written_after status))
+    (λ request. CompletesIn table request read read_after written written_after status))
 
 -- what a cause leaves: its own status, unless a load failed or memory was refused
 abbrev pub EndsByCause : Status → Status → Type 0
@@ -57,9 +57,9 @@ EndsByCause cause status = status ≡ cause
 -- a cause why there is no run is answered as it is
 abbrev pub RefusesIn : FileTable → Request → Status → Type 0
 RefusesIn table request status =
-  (cause : Status) → IsCause table request cause → EndsByCause cause status
+    (cause : Status) → IsCause table request cause → EndsByCause cause status
 
 -- the same where the files are told and the words are well formed
 abbrev pub Refuses : Option FileTable → Option Request → Status → Type 0
 Refuses files asked status =
-  IfSome files (λ table. IfSome asked (λ request. RefusesIn table request status))
+    IfSome files (λ table. IfSome asked (λ request. RefusesIn table request status))

@@ -13,9 +13,9 @@ use Rattle.sppy_cli.specs.declared.status.Status.TheVariants as status
 -- memory
 abbrev pub HasNoRun : Option FileTable → Request → Status → Type 0
 HasNoRun files request (status.Input fault) =
-  IfSome files (λ table. IsCause table request (status.Input fault))
+    IfSome files (λ table. IsCause table request (status.Input fault))
 HasNoRun files request (status.Wide reach) =
-  IfSome files (λ table. IsCause table request (status.Wide reach))
+    IfSome files (λ table. IsCause table request (status.Wide reach))
 HasNoRun files request (status.ReadFault faults) = Unit {0}
 HasNoRun files request status.Memory = Unit {0}
 HasNoRun files request _ = ⊥
@@ -33,14 +33,14 @@ LoadsInstance files request (Err status) = HasNoRun files request status
 -- a request is answered by its run, of which the text is written; or there is none, and nothing is
 -- written
 abbrev pub AnswersRequest : Option FileTable → Request → Option (List ℕ) → Option (List ℕ) → Status
-  → Type 0
+    → Type 0
 AnswersRequest files request old new status =
     ((instance : Instance) × IsInstanceOf files request instance
-        × Writes request.action instance old new status)
+    × Writes request.action instance old new status)
     ⊎ (HasNoRun files request status × (new ≡ old))
 
 -- nothing is written where the words ask for nothing
 abbrev pub Answers : Option FileTable → Option Request → Option (List ℕ) → Option (List ℕ) → Status
-  → Type 0
+    → Type 0
 Answers files None old new status = new ≡ old
 Answers files (Some request) old new status = AnswersRequest files request old new status

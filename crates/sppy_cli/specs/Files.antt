@@ -27,11 +27,11 @@ told_as kind_of (Err (line, k)) = Err (line, kind_of k)
 -- what a file says by the meaning of its bytes: nothing where it isn't there, and a fault of the
 -- whole where it is too long
 abbrev pub said_by : {X K : Type 0} → (K → InputKind) → (List ℕ → Result X (ℕ × K))
-  → Option (List ℕ) → Option (Result X (ℕ × InputKind))
+    → Option (List ℕ) → Option (Result X (ℕ × InputKind))
 said_by kind_of means None = None
 said_by kind_of means (Some bytes) = Some
-  (if nat_le (length bytes) max_file_bytes then told_as kind_of (means bytes)
-  else Err (0, kind.TooLong))
+    (if nat_le (length bytes) max_file_bytes then told_as kind_of (means bytes)
+    else Err (0, kind.TooLong))
 
 -- what the core file says, the time file beside a core, and the stoch file beside both
 abbrev pub core_file : Option (List ℕ) → Option (Result Before (ℕ × InputKind))
@@ -45,7 +45,7 @@ stoch_file core periods file = said_by kind.Stoch (stoch_meaning core periods) f
 
 -- a file says data that these show
 abbrev pub IsSaid : {V X : Type 0} → (V → X → Type 0) → Option (Result V (ℕ × InputKind)) → X
-  → Type 0
+    → Type 0
 IsSaid {V} shows said x = (v : V) × (said ≡ Some (Ok v)) × shows v x
 
 -- the core of a core file, the periods of a time file, and the data of a stoch file

@@ -38,20 +38,20 @@ AreReadBefore table request file.Join =
 -- the load of this file was the last call: the names up to it were loaded, and, where the files are
 -- told, those before it have no fault
 abbrev pub LoadsTo : Option FileTable → Request → InputFile → Option (List (List ℕ))
-  → Option (List (List ℕ)) → Type 0
+    → Option (List (List ℕ)) → Type 0
 LoadsTo files request file old new =
     (new ≡ with_names old (names_to file request))
-        × IfSome files (λ table. AreReadBefore table request file)
+    × IfSome files (λ table. AreReadBefore table request file)
 
 -- the load of some file of the request was the last call
 abbrev pub LoadsToSome : Option FileTable → Request → Option (List (List ℕ))
-  → Option (List (List ℕ)) → Type 0
+    → Option (List (List ℕ)) → Type 0
 LoadsToSome files request old new = (file : InputFile) × LoadsTo files request file old new
 
 -- which load was the last one, by the status: the faulty file's, some file's after a read fault,
 -- some file's or none after want of memory, else the stoch file's, and all three have no fault
 abbrev pub LoadsInTurn : Option FileTable → Request → Option (List (List ℕ))
-  → Option (List (List ℕ)) → Status → Type 0
+    → Option (List (List ℕ)) → Status → Type 0
 LoadsInTurn files request old new (status.Input fault) = LoadsTo files request fault.file old new
 LoadsInTurn files request old new (status.ReadFault faults) = LoadsToSome files request old new
 LoadsInTurn files request old new status.Memory = (new ≡ old) ⊎ LoadsToSome files request old new
@@ -59,12 +59,12 @@ LoadsInTurn files request old new _ = LoadsTo files request file.Join old new
 
 -- the same of a call that makes an instance or ends by a status
 abbrev pub LoadsAllInTurn : {X : Type 0} → Option FileTable → Request → Option (List (List ℕ))
-  → Option (List (List ℕ)) → Result X Status → Type 0
+    → Option (List (List ℕ)) → Result X Status → Type 0
 LoadsAllInTurn files request old new (Ok instance) = LoadsTo files request file.Join old new
 LoadsAllInTurn files request old new (Err status) = LoadsInTurn files request old new status
 
 -- the loads of a command; none where its words aren't well formed
 abbrev pub LoadsNames : Option FileTable → Option Request → Option (List (List ℕ))
-  → Option (List (List ℕ)) → Status → Type 0
+    → Option (List (List ℕ)) → Status → Type 0
 LoadsNames files None old new status = new ≡ old
 LoadsNames files (Some request) old new status = LoadsInTurn files request old new status

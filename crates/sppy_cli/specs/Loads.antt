@@ -25,33 +25,33 @@ IsLongAt file fault = IsLong file × (fault ≡ (0, kind.TooLong))
 
 -- what a load of one file answers, by the file where it is told
 abbrev pub LoadsBytes : {A : Type 0} → (A → List ℕ) → Option FileTable → List ℕ → Result A FileFault
-  → Type 0
+    → Type 0
 LoadsBytes bytes_of None name result = Unit {0}
 LoadsBytes bytes_of (Some table) name (Ok loaded) =
     (get table name ≡ Some (bytes_of loaded)) × (length (bytes_of loaded) ≤ max_file_bytes)
 LoadsBytes bytes_of (Some table) name (Err (Wrong line kind)) =
-  IsLongAt (get table name) (line, kind)
+    IsLongAt (get table name) (line, kind)
 LoadsBytes bytes_of (Some table) name (Err (Failed faults)) = Unit {0}
 LoadsBytes bytes_of (Some table) name (Err Memory) = Unit {0}
 
 -- what a load and reading of one file answers, by what the file says where it is told
 abbrev pub Loads : {V X : Type 0} → (Option (List ℕ) → Option (Result V (ℕ × InputKind)))
-  → (V → X → Type 0) → Option FileTable → List ℕ → Result X FileFault → Type 0
+    → (V → X → Type 0) → Option FileTable → List ℕ → Result X FileFault → Type 0
 Loads says shows None name result = Unit {0}
 Loads says shows (Some table) name (Ok x) = IsSaid shows (says (get table name)) x
 Loads says shows (Some table) name (Err (Wrong line kind)) =
-  says (get table name) ≡ Some (Err (line, kind))
+    says (get table name) ≡ Some (Err (line, kind))
 Loads says shows (Some table) name (Err (Failed faults)) = Unit {0}
 Loads says shows (Some table) name (Err Memory) = Unit {0}
 
 -- the name of the file was loaded, and no other; where memory is refused, maybe none
 abbrev pub LoadsNameAtFault : List ℕ → Option (List (List ℕ)) → Option (List (List ℕ)) → FileFault
-  → Type 0
+    → Type 0
 LoadsNameAtFault name old new Memory = (new ≡ old) ⊎ (new ≡ with_names old (name ∷ []))
 LoadsNameAtFault name old new _ = new ≡ with_names old (name ∷ [])
 
 abbrev pub LoadsName : {X : Type 0} → List ℕ → Option (List (List ℕ)) → Option (List (List ℕ))
-  → Result X FileFault → Type 0
+    → Result X FileFault → Type 0
 LoadsName name old new (Ok x) = new ≡ with_names old (name ∷ [])
 LoadsName name old new (Err fault) = LoadsNameAtFault name old new fault
 

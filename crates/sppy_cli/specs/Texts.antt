@@ -22,7 +22,7 @@ heading_text i = concat (heading_of i.triple.core i.run)
 -- the places of the power of ten by which each row was multiplied
 abbrev pub places_of : Instance → List ℕ
 places_of i =
-  (frame_of (joined i.triple.core i.triple.periods i.triple.stoch i.run.options.missing)).row_places
+    (frame_of (joined i.triple.core i.triple.periods i.triple.stoch i.run.options.missing)).row_places
 
 -- the text of `wait` behind the heading: the wait-and-see bound as the first pair and the last
 abbrev pub IsWaitRest : Instance → List ℕ → Type 0
@@ -54,7 +54,7 @@ WritesFront action i old new =
 -- how a command ends that has its run, and what of its text was written then
 abbrev pub Writes : Action → Instance → Option (List ℕ) → Option (List ℕ) → Status → Type 0
 Writes action i old new status.Done =
-  (text : List ℕ) × IsText action i text × (new ≡ appended old text)
+    (text : List ℕ) × IsText action i text × (new ≡ appended old text)
 Writes action i old new (status.Infeasible scenario) =
     (action ≡ Wait) × IsFirstInfeasible i.run scenario × (new ≡ appended old (heading_text i))
 Writes action i old new (status.Spent scenario opened) =
@@ -71,7 +71,7 @@ CutsText text old new _ = ⊥
 
 -- a text was put, or cut
 abbrev pub PutsText : {U : Type 0} → List ℕ → Option (List ℕ) → Option (List ℕ) → Result U Status
-  → Type 0
+    → Type 0
 PutsText text old new (Ok _) = new ≡ appended old text
 PutsText text old new (Err status) = CutsText text old new status
 
@@ -79,22 +79,22 @@ PutsText text old new (Err status) = CutsText text old new status
 -- this reason
 abbrev pub WritesRest : Action → Instance → Option (List ℕ) → Option (List ℕ) → Status → Type 0
 WritesRest action i old new status.Done =
-  (rest : List ℕ) × IsRest action i rest × (new ≡ appended old rest)
+    (rest : List ℕ) × IsRest action i rest × (new ≡ appended old rest)
 WritesRest action i old new (status.Infeasible scenario) =
-  (action ≡ Wait) × IsFirstInfeasible i.run scenario × (new ≡ old)
+    (action ≡ Wait) × IsFirstInfeasible i.run scenario × (new ≡ old)
 WritesRest action i old new (status.Spent scenario opened) =
-  (action ≡ Wait) × IsSpent i.run scenario opened × (new ≡ old)
+    (action ≡ Wait) × IsSpent i.run scenario opened × (new ≡ old)
 WritesRest action i old new (status.WriteFault faults) =
-  (rest : List ℕ) × IsRest action i rest × AppendsFront old new rest
+    (rest : List ℕ) × IsRest action i rest × AppendsFront old new rest
 WritesRest action i old new status.Memory =
-  (new ≡ old) ⊎ ((rest : List ℕ) × IsRest action i rest × AppendsFront old new rest)
+    (new ≡ old) ⊎ ((rest : List ℕ) × IsRest action i rest × AppendsFront old new rest)
 WritesRest action i old new _ = ⊥
 
 -- a front of the lines of a bound was written
 abbrev pub WritesBoundFront : Instance → ℤ → Option (List ℕ) → Option (List ℕ) → Type 0
 WritesBoundFront i bound old new =
     (lines : List (List ℕ)) × IsBoundText bound (unit_of i.run) lines
-        × AppendsFront old new (concat lines)
+    × AppendsFront old new (concat lines)
 
 -- the lines of a bound were cut so; none of them was put where there was no memory to make them
 abbrev pub CutsBound : Instance → ℤ → Option (List ℕ) → Option (List ℕ) → Status → Type 0
@@ -104,8 +104,8 @@ CutsBound i bound old new _ = ⊥
 
 -- the lines of a bound were put, or cut
 abbrev pub PutsBound : {U : Type 0} → Instance → ℤ → Option (List ℕ) → Option (List ℕ)
-  → Result U Status → Type 0
+    → Result U Status → Type 0
 PutsBound i bound old new (Ok _) =
     (lines : List (List ℕ)) × IsBoundText bound (unit_of i.run) lines
-        × (new ≡ appended old (concat lines))
+    × (new ≡ appended old (concat lines))
 PutsBound i bound old new (Err status) = CutsBound i bound old new status

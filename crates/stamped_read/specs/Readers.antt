@@ -50,8 +50,14 @@ window_of s = s.window + s.rank
 
 -- a reader that has read nothing
 abbrev pub fresh_reader : ℕ → List (Contents ℕ) → Reader
-fresh_reader w parts = record { window = w; parts = parts; rank = 0; begun = false; first = 0;
-  last = 0 }
+fresh_reader w parts = record {
+  window = w;
+  parts = parts;
+  rank = 0;
+  begun = false;
+  first = 0;
+  last = 0;
+}
 
 -- a stamp is that of an entry newer than the last
 pub record IsNewer (last n : ℕ) : Type 0 where
@@ -71,7 +77,7 @@ due_begun full w = if full then call.End w else call.Read w
 
 abbrev pub due : Reader → Call
 due s = if s.begun then due_begun (nat_eq (part s s.rank).spare 0) (window_of s)
-  else call.Begin (window_of s)
+    else call.Begin (window_of s)
 
 -- the first window has no newer entry
 abbrev pub stale : Reader → ℕ → Option Again
@@ -84,7 +90,7 @@ mixed s n = if nat_eq n s.first then None else Some (Mixed s.rank s.first n)
 -- why no reading begins at the stamp n
 abbrev pub unfit : Reader → ℕ → Option Again
 unfit s n = if nat_eq (n % 2) 1 then Some (Odd s.rank n)
-  else (if nat_eq s.rank 0 then stale s n else mixed s n)
+    else (if nat_eq s.rank 0 then stale s n else mixed s n)
 
 -- the next reading begins at the first window
 abbrev pub restarted : Reader → Reader
@@ -93,7 +99,7 @@ restarted s = record s { rank = 0; begun = false }
 -- a reading of the window begins at the stamp n
 abbrev pub begins : Option Again → Reader → ℕ → Reader
 begins None s n =
-  record s { begun = true; first = n; parts = slice_set s.parts s.rank (emptied (part s s.rank)) }
+    record s { begun = true; first = n; parts = slice_set s.parts s.rank (emptied (part s s.rank)) }
 begins (Some again) s n = restarted s
 
 abbrev pub begins_told : Option Again → Read
@@ -107,7 +113,7 @@ reads s n = record s { parts = slice_set s.parts s.rank (longer_part (part s s.r
 -- its words are whole: the next window follows, or the entry is read
 abbrev pub follows : Bool → Reader → Reader
 follows more s = if more then record s { rank = s.rank + 1; begun = false }
-  else record s { rank = 0; begun = false; last = s.first / 2 }
+    else record s { rank = 0; begun = false; last = s.first / 2 }
 
 abbrev pub follows_told : Bool → Reader → Read
 follows_told more s = if more then read.Going else read.Reading (s.first / 2)
@@ -122,7 +128,7 @@ ends s n = if nat_eq n s.first then follows (is_more s) s else restarted s
 
 abbrev pub ends_told : Reader → ℕ → Read
 ends_told s n =
-  if nat_eq n s.first then follows_told (is_more s) s else read.Again (Torn s.rank s.first n)
+    if nat_eq n s.first then follows_told (is_more s) s else read.Again (Torn s.rank s.first n)
 
 -- the reader after the answer n of a call, and what it tells
 abbrev pub next : Call → Reader → ℕ → Reader

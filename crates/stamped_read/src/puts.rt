@@ -54,7 +54,7 @@ impl StampedReader {
         requires { 0 < M.lead of.now }
         ensures fresh { IfOk result (λ reader. reader
             ≡ fresh_reader 0 (map (fresh_part (M.wide of.now))
-                (range_with_len 0 (M.lead of.now)))) }
+            (range_with_len 0 (M.lead of.now)))) }
         ensures reads { IfOk result (λ reader. (v : View) →
             ReadsFor (M.entry of.now) (M.wide of.now) (M.count of.now) v reader) }
     {

@@ -45,7 +45,7 @@ block_names_in section line = if is_block_line section line then field 1 line �
 
 abbrev pub blocks_of : List TextLine → List (List ℕ)
 blocks_of lines =
-  fold with_name [] (all_told (λ before line. block_names_in (section_of before) line) [] lines)
+    fold with_name [] (all_told (λ before line. block_names_in (section_of before) line) [] lines)
 
 abbrev pub names_of : List TextLine → List (List ℕ)
 names_of lines = all_told (λ before line. scenario_names (section_of before) line) [] lines
@@ -63,12 +63,12 @@ module _ (core : Core) (periods : Periods) where
   abbrev pub periods_of : List TextLine → List ℕ
   periods_of lines =
       all_told (λ before line. new_periods (sources_of before)
-          (sayings core periods (section_of before) (blocks_of before) line)) [] lines
+      (sayings core periods (section_of before) (blocks_of before) line)) [] lines
 
   abbrev pub realisations_of : List TextLine → List Chosen
   realisations_of lines =
       all_told (λ before line. map (chosen_by (sources_of before))
-          (sayings core periods (section_of before) (blocks_of before) line)) [] lines
+      (sayings core periods (section_of before) (blocks_of before) line)) [] lines
 
   abbrev pub scenarios_of : List TextLine → List ScenarioHead
   scenarios_of lines = all_told
@@ -77,7 +77,7 @@ module _ (core : Core) (periods : Periods) where
   abbrev pub entries_of : List TextLine → List Owned
   entries_of lines =
       all_told (λ before line. owned_entries core (section_of before) (sources_of before)
-          (realisations_of before) (scenarios_of before) line) [] lines
+      (realisations_of before) (scenarios_of before) line) [] lines
 
   abbrev pub before_of : List TextLine → Before
   before_of lines = record {

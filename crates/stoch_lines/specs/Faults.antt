@@ -45,11 +45,11 @@ number_fault text = numbers.number_fault number_kind text
 -- besides
 abbrev pub is_probability : Decimal → Bool
 is_probability d =
-  int_lt (pos 0) d.mantissa && not (int_lt (pos (10 ^ (max_probability + d.places))) d.mantissa)
+    int_lt (pos 0) d.mantissa && not (int_lt (pos (10 ^ (max_probability + d.places))) d.mantissa)
 
 abbrev pub probability_fault : List ℕ → Option StochKind
 probability_fault text =
-  number_fault text or first_true ((not (is_probability (number_in text)), Weight) ∷ [])
+    number_fault text or first_true ((not (is_probability (number_in text)), Weight) ∷ [])
 
 abbrev pub period_fault : Periods → List ℕ → Option StochKind
 period_fault periods name = first_true ((is_none (period_of periods name), Unknown) ∷ [])
@@ -57,7 +57,7 @@ period_fault periods name = first_true ((is_none (period_of periods name), Unkno
 -- a line's first field, the row in its field k, and the value behind it
 abbrev pub pair_fault : Core → ℕ → TextLine → Option StochKind
 pair_fault core k line =
-  first_true ((is_none (place_at core k line), Unknown) ∷ []) or number_fault (field (k + 1) line)
+    first_true ((is_none (place_at core k line), Unknown) ∷ []) or number_fault (field (k + 1) line)
 
 -- the last entry before that has a place
 abbrev pub last_at : StochPlace → List Owned → Option Owned
@@ -66,12 +66,12 @@ last_at place entries = find (λ owned. same_place owned.entry.place place) (rev
 -- whether a place belongs to another element
 abbrev pub is_taken : List Owned → ℕ → StochPlace → Bool
 is_taken entries element place =
-  option_map_or (λ owned. not (owned.element == element)) (last_at place entries) false
+    option_map_or (λ owned. not (owned.element == element)) (last_at place entries) false
 
 -- whether a place stands already in a realisation or a scenario, the last one
 abbrev pub is_given : List Owned → ℕ → StochPlace → Bool
 is_given entries choice place =
-  option_map_or (λ owned. owned.choice == choice) (last_at place entries) false
+    option_map_or (λ owned. owned.choice == choice) (last_at place entries) false
 
 -- the period of an element: its own, or the one said where the line is its first
 abbrev pub own_period : Before → Saying → ℕ
@@ -80,7 +80,7 @@ own_period b saying = slice_index_or b.periods (element_of b.sources saying.sour
 -- the period that a line of INDEP names, if it has five fields
 abbrev pub named_fault : Periods → TextLine → Option StochKind
 named_fault periods line =
-  if field_count line == 5 then period_fault periods (field 3 line) else None
+    if field_count line == 5 then period_fault periods (field 3 line) else None
 
 -- the form of a line of INDEP
 abbrev pub indep_form : Core → Periods → TextLine → Option StochKind
@@ -105,7 +105,7 @@ abbrev pub indep_fault : Core → Periods → Before → TextLine → Option Sto
 indep_fault core periods b line =
     indep_form core periods line
     or indep_rules periods b (entry_at core 1 line).place (named_period periods line)
-        (indep_saying core periods line)
+    (indep_saying core periods line)
 
 -- a line that begins a realisation of a block
 abbrev pub block_form : Periods → TextLine → Option StochKind
@@ -121,7 +121,7 @@ block_rules b saying =
 
 abbrev pub block_fault : Periods → Before → TextLine → Option StochKind
 block_fault periods b line =
-  block_form periods line or block_rules b (block_saying periods b.blocks line)
+    block_form periods line or block_rules b (block_saying periods b.blocks line)
 
 -- whether a name stands for the core where a parent is named
 abbrev pub is_root : List ℕ → Bool
@@ -142,7 +142,7 @@ scenario_form b line =
 
 abbrev pub scenario_numbers : Periods → TextLine → Option StochKind
 scenario_numbers periods line =
-  probability_fault (field 3 line) or period_fault periods (field 4 line)
+    probability_fault (field 3 line) or period_fault periods (field 4 line)
 
 abbrev pub scenario_fault : Periods → Before → TextLine → Option StochKind
 scenario_fault periods b line =
@@ -156,7 +156,7 @@ abbrev pub is_repeated : List Owned → ℕ → List StochPlace → Bool
 is_repeated entries choice [] = false
 is_repeated entries choice (place ∷ places) =
     is_given entries choice place
-        || (list_any (same_place place) places || is_repeated entries choice places)
+    || (list_any (same_place place) places || is_repeated entries choice places)
 
 -- the places of a line with one or two pairs
 abbrev pub places_at : Core → TextLine → List StochPlace
@@ -195,7 +195,7 @@ block_data_fault core periods b line =
 -- second
 abbrev pub branching_stage : List ScenarioHead → ℕ
 branching_stage scenarios =
-  max 2 (option_map_or (λ s. s.period) (slice_get scenarios (length scenarios - 1)) 0)
+    max 2 (option_map_or (λ s. s.period) (slice_get scenarios (length scenarios - 1)) 0)
 
 -- a line of data in a scenario
 abbrev pub scenario_data_fault : Core → Periods → Before → TextLine → Option StochKind
@@ -249,8 +249,8 @@ has_mode line = (field_count line == 1) || (has_one_mode line || has_both_modes 
 
 abbrev pub section_fault : Option Heading → TextLine → Option StochKind
 section_fault section line = first_true
-  ((not (may_follow (heading_of (field 0 line)) section), Section) ∷ (not (has_mode line), Mode)
-  ∷ [])
+    ((not (may_follow (heading_of (field 0 line)) section), Section) ∷ (not (has_mode line), Mode)
+    ∷ [])
 
 -- a header
 abbrev pub header_fault : Before → TextLine → Option StochKind
@@ -262,7 +262,7 @@ header_fault b line =
 -- any line
 abbrev pub line_fault : Core → Periods → Before → TextLine → Option StochKind
 line_fault core periods b line =
-  if line.header then header_fault b line else data_fault core periods b.section b line
+    if line.header then header_fault b line else data_fault core periods b.section b line
 
 -- whether a line ends the file
 abbrev pub is_end : TextLine → Bool

@@ -10,7 +10,7 @@ use Rattle.stoch_lines.specs.Faults.{last_at}
 
 -- for each place the mark is that of its last entry, and there is none where it has no entry
 pub record AreMarked {S : Type 0} (marks : IndexMap StochPlace Mark S)
-  (items : List Owned) : Type 0 where
+    (items : List Owned) : Type 0 where
   pub elements : (place : StochPlace)
       → option_map_or (λ mark. mark.element + 1) (get same_place marks place) 0
       ≡ option_map_or (λ owned. owned.element + 1) (last_at place items) 0

@@ -32,7 +32,7 @@ place_in_column core column row =
 -- the place of the right side of the row of this name
 abbrev pub place_on_right : Core → List ℕ → Option StochPlace
 place_on_right core row =
-  option_map (λ number. Right number) (position (bytes_eq row) core.row_names)
+    option_map (λ number. Right number) (position (bytes_eq row) core.row_names)
 
 -- whether a first field stands for the right sides, where no column has this name
 abbrev pub is_right_name : Core → List ℕ → Bool
@@ -42,12 +42,12 @@ is_right_name core first = bytes_eq first (codes "RHS") || bytes_eq first core.r
 abbrev pub place_of_first : Core → Option ℕ → List ℕ → List ℕ → Option StochPlace
 place_of_first core (Some column) first row = place_in_column core column row
 place_of_first core None first row =
-  if is_right_name core first then place_on_right core row else None
+    if is_right_name core first then place_on_right core row else None
 
 -- the place that a first field and a row name, if they name one
 abbrev pub stoch_place : Core → List ℕ → List ℕ → Option StochPlace
 stoch_place core first row =
-  place_of_first core (position (bytes_eq first) core.column_names) first row
+    place_of_first core (position (bytes_eq first) core.column_names) first row
 
 -- the stage of a place: its row's, or for a cost the column's
 abbrev pub stage_of_place : Periods → StochPlace → ℕ
@@ -58,7 +58,7 @@ stage_of_place periods (Right row) = stage_in periods.rows row
 -- whether a place is that of a column in a row of an earlier stage
 abbrev pub anticipates : Periods → StochPlace → Bool
 anticipates periods (Cell row column) =
-  nat_lt (stage_in periods.rows row) (stage_in periods.columns column)
+    nat_lt (stage_in periods.rows row) (stage_in periods.columns column)
 anticipates periods _ = false
 
 -- the number of the period of this name, from 1

@@ -61,7 +61,7 @@ entry_at core k line = record {
 -- the entries of a line with one or two pairs of row and value
 abbrev pub entries_at : Core → TextLine → List StochEntry
 entries_at core line =
-  entry_at core 1 line ∷ (if field_count line == 5 then entry_at core 3 line ∷ [] else [])
+    entry_at core 1 line ∷ (if field_count line == 5 then entry_at core 3 line ∷ [] else [])
 
 -- the period that a line of INDEP names, if it has five fields
 abbrev pub named_period : Periods → TextLine → Option ℕ
@@ -79,7 +79,7 @@ saying_at periods place named probability = record {
 abbrev pub indep_saying : Core → Periods → TextLine → Saying
 indep_saying core periods line =
     saying_at periods (entry_at core 1 line).place (named_period periods line)
-        (number_in (last_field line))
+    (number_in (last_field line))
 
 -- the number of a block: its own, or the next where no line before has its name
 abbrev pub block_number : List (List ℕ) → TextLine → ℕ
@@ -99,13 +99,13 @@ abbrev pub saying_in : Core → Periods → Option Heading → List (List ℕ) �
 saying_in core periods None blocks line = []
 saying_in core periods (Some Indep) blocks line = indep_saying core periods line ∷ []
 saying_in core periods (Some Blocks) blocks line =
-  if begins_block line then block_saying periods blocks line ∷ [] else []
+    if begins_block line then block_saying periods blocks line ∷ [] else []
 saying_in core periods (Some Scenarios) blocks line = []
 
 -- the same of any line
 abbrev pub sayings : Core → Periods → Option Heading → List (List ℕ) → TextLine → List Saying
 sayings core periods section blocks line =
-  if line.header then [] else saying_in core periods section blocks line
+    if line.header then [] else saying_in core periods section blocks line
 
 -- whether a section is BLOCKS, and whether it is SCENARIOS
 abbrev pub is_blocks : Option Heading → Bool
@@ -131,7 +131,7 @@ with_name names name = if list_any (bytes_eq name) names then names else (names 
 -- the elements' sources with one more, where it is new
 abbrev pub with_new : List Source → Source → List Source
 with_new sources source =
-  if list_any (same_source source) sources then sources else (sources ++ source ∷ [])
+    if list_any (same_source source) sources then sources else (sources ++ source ∷ [])
 
 abbrev pub with_source : List Source → Saying → List Source
 with_source sources saying = with_new sources saying.source
@@ -139,7 +139,7 @@ with_source sources saying = with_new sources saying.source
 -- the period of an element that a line begins
 abbrev pub new_period : List Source → Saying → List ℕ
 new_period sources saying =
-  if list_any (same_source saying.source) sources then [] else (saying.period ∷ [])
+    if list_any (same_source saying.source) sources then [] else (saying.period ∷ [])
 
 abbrev pub new_periods : List Source → List Saying → List ℕ
 new_periods sources [] = []
@@ -152,13 +152,15 @@ element_of sources source = position_or_len (same_source source) sources
 
 -- a realisation: its element's number and its probability
 abbrev pub chosen_by : List Source → Saying → Chosen
-chosen_by sources saying = record { element = element_of sources saying.source;
-  probability = saying.probability }
+chosen_by sources saying = record {
+  element = element_of sources saying.source;
+  probability = saying.probability;
+}
 
 -- the number of the element of the last realisation
 abbrev pub last_element : List Chosen → ℕ
 last_element realisations =
-  option_map_or (λ r. r.element) (slice_get realisations (length realisations - 1)) 0
+    option_map_or (λ r. r.element) (slice_get realisations (length realisations - 1)) 0
 
 -- an entry of a realisation of an element, or of a scenario
 abbrev pub owned_by : ℕ → ℕ → StochEntry → Owned
@@ -167,22 +169,22 @@ owned_by element choice entry = record { element = element; choice = choice; ent
 -- the entries of a line of data in a section: those of INDEP belong to the line's own realisation,
 -- those of the other sections to the last realisation or scenario
 abbrev pub entries_in : Core → Option Heading → List Source → List Chosen → List ScenarioHead
-  → TextLine → List Owned
+    → TextLine → List Owned
 entries_in core None sources realisations scenarios line = []
 entries_in core (Some Indep) sources realisations scenarios line =
     let entry = entry_at core 1 line in owned_by (element_of sources (Place entry.place))
-        (length realisations) entry ∷ []
+    (length realisations) entry ∷ []
 entries_in core (Some Blocks) sources realisations scenarios line =
     if begins_block line then []
-        else map (owned_by (last_element realisations) (length realisations - 1))
-        (entries_at core line)
+    else map (owned_by (last_element realisations) (length realisations - 1))
+    (entries_at core line)
 entries_in core (Some Scenarios) sources realisations scenarios line =
     if begins_scenario line then []
-        else map (owned_by 0 (length scenarios - 1)) (entries_at core line)
+    else map (owned_by 0 (length scenarios - 1)) (entries_at core line)
 
 -- the same of any line
 abbrev pub owned_entries : Core → Option Heading → List Source → List Chosen → List ScenarioHead
-  → TextLine → List Owned
+    → TextLine → List Owned
 owned_entries core section sources realisations scenarios line =
     if line.header then [] else entries_in core section sources realisations scenarios line
 
@@ -196,7 +198,7 @@ scenario_head periods names line = record {
 
 abbrev pub scenario_heads : Periods → Option Heading → List (List ℕ) → TextLine → List ScenarioHead
 scenario_heads periods section names line =
-  if is_scenario_line section line then scenario_head periods names line ∷ [] else []
+    if is_scenario_line section line then scenario_head periods names line ∷ [] else []
 
 abbrev pub scenario_names : Option Heading → TextLine → List (List ℕ)
 scenario_names section line = if is_scenario_line section line then field 1 line ∷ [] else []

@@ -24,7 +24,7 @@ fault_after core periods before line = line_fault core periods (before_of core p
 
 -- each line judged by the lines before it
 abbrev pub stoch_outcome : Core → Periods → List TextLine
-  → Outcome TextLine StochKind (List TextLine)
+    → Outcome TextLine StochKind (List TextLine)
 stoch_outcome core periods lines = outcome (fault_after core periods) is_end [] lines
 
 -- what lines say up to the end, as it is
@@ -36,11 +36,11 @@ said_whole b = b
 abbrev pub lines_meaning : Core → Periods → List TextLine → Result Before (ℕ × StochKind)
 lines_meaning core periods lines =
     answer_of said_whole (last_number lines) NoEnd
-        (seen_by (before_of core periods) (stoch_outcome core periods lines))
+    (seen_by (before_of core periods) (stoch_outcome core periods lines))
 
 -- the same for what the file is read as; no file is read as want of memory
 abbrev pub read_meaning : Core → Periods → List ℕ → Result (List Line) LineFault
-  → Result Before (ℕ × StochKind)
+    → Result Before (ℕ × StochKind)
 read_meaning core periods bytes (Ok found) = lines_meaning core periods (text_lines bytes found)
 read_meaning core periods bytes (Err (lines.NotAscii line)) = Err (line, NotAscii)
 read_meaning core periods bytes (Err (lines.TooLong line)) = Err (line, LongLine)
@@ -66,16 +66,16 @@ AreSome lines = 0 < length lines
 
 -- what lines come to, line by line from a state on
 abbrev pub stepped_from : Core → Periods → Before → List TextLine
-  → Outcome TextLine StochKind Before
+    → Outcome TextLine StochKind Before
 stepped_from core periods b lines =
-  folded (line_fault core periods) is_end (next core periods) b lines
+    folded (line_fault core periods) is_end (next core periods) b lines
 
 abbrev pub stepped : Core → Periods → List TextLine → Outcome TextLine StochKind Before
 stepped core periods lines = stepped_from core periods nothing_said lines
 
 -- the answer for lines by what they come to
 abbrev pub answer_for : List TextLine → Outcome TextLine StochKind Before
-  → Result Before (ℕ × StochKind)
+    → Result Before (ℕ × StochKind)
 answer_for lines come_to = answer_of said_whole (last_number lines) NoEnd come_to
 
 -- what the lines of a file mean, line by line

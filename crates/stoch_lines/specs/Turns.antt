@@ -42,24 +42,24 @@ Refuses (faults.At number kind) fault line = (number ≡ line.number) × (fault 
 
 -- a step tells the line's fault, and where there is none it makes the state such
 abbrev pub Turns : {X : Type 0} → Option StochKind → TextLine → Result X StochFault → Type 0
-  → Type 0
+    → Type 0
 Turns fault line (Ok x) after = (fault ≡ None) × after
 Turns fault line (Err e) after = Refuses e fault line
 
 -- a line of data tells its fault by the lines before, and where there is none the state shows what
 -- it adds
 abbrev pub Adds : Core → Periods → (Before → TextLine → Option StochKind) → State → FileLine
-  → Result (Unit {0}) StochFault → State → Type 0
+    → Result (Unit {0}) StochFault → State → Type 0
 Adds core periods fault old line result new =
     let text = text_of line in
     Turns (fault (before_in old) text) text result
-        (before_in new ≡ added core periods (before_in old) text)
+    (before_in new ≡ added core periods (before_in old) text)
 
 -- a whole step tells whether the line ends the file besides
 abbrev pub Steps : Core → Periods → Before → TextLine → Result Bool StochFault → Before → Type 0
 Steps core periods b line (Ok ended) after =
     (line_fault core periods b line ≡ None) × (ended ≡ is_end line)
-        × (after ≡ next core periods b line)
+    × (after ≡ next core periods b line)
 Steps core periods b line (Err e) after = Refuses e (line_fault core periods b line) line
 
 -- a scenario that a line begins has a new name, and there is room for it

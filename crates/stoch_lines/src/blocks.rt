@@ -86,7 +86,7 @@ impl State {
     fn begin_realisation(&mut self, name: &[u8], saying: &Saying) -> Result<(), AllocError>
         ensures { OnOk result
             (before_in self.new ≡ with_saying (with_block (before_in self.old) name.now)
-                saying.now) }
+            saying.now) }
     {
         add_name(&mut self.blocks, name)?;
         self.add_realisation(saying)

@@ -40,7 +40,7 @@ fn named_of(periods: &Periods, line: &FileLine<'_>) -> Result<Option<u8>, StochK
 fn fields_of(core: &Core, periods: &Periods, line: &FileLine<'_>) -> Result<IndepFields, StochKind>
     ensures { Passes (indep_form core.now periods.now (text_of line.now)) result
         (λ f. AreIndepFields core.now periods.now (text_of line.now) f.entry f.named
-            f.probability) }
+        f.probability) }
 {
     let count = line.count();
     if count != 4 && count != 5 {

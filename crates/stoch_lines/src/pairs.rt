@@ -70,7 +70,7 @@ fn one_anticipates(periods: &Periods, pairs: &Pairs) -> bool
 fn one_is_early(periods: &Periods, earliest: u8, pairs: &Pairs) -> bool
     ensures { result
         ≡ list_any (λ place. nat_lt (stage_of_place periods.now place) earliest)
-            (pair_places pairs.now) }
+        (pair_places pairs.now) }
 {
     match pairs.second {
         Some(second) => {

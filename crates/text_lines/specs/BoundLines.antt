@@ -17,4 +17,4 @@ bound_lines_of bound value =
 -- the lines of a bound; its value is bound / unit in lowest terms
 abbrev pub IsBoundText : ℤ → ℤ → List (List ℕ) → Type 0
 IsBoundText bound unit lines =
-  (value : Fraction) × IsLowest bound unit value × (lines ≡ bound_lines_of bound value)
+    (value : Fraction) × IsLowest bound unit value × (lines ≡ bound_lines_of bound value)

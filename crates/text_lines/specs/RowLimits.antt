@@ -9,7 +9,7 @@ abbrev pub with_limits : List Limits → Change → List Limits
 with_limits limits (change.Cost column value) = limits
 with_limits limits (change.Cell row column value) = limits
 with_limits limits (change.Limits row lower upper) =
-  slice_set limits row (record { lower = lower; upper = upper })
+    slice_set limits row (record { lower = lower; upper = upper })
 
 -- what stands past the end of limits
 abbrev pub no_limits : Limits

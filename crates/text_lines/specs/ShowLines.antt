@@ -28,7 +28,7 @@ column_text name column = codes "column " ++ name ++ codes " " ++ decimal column
 
 abbrev pub column_line : Core → Run → ℕ → List ℕ
 column_line core run j = line_of
-  (column_text (name_at core.column_names j) (slice_index_or run.program.columns j no_column))
+    (column_text (name_at core.column_names j) (slice_index_or run.program.columns j no_column))
 
 -- row i: its name, its stage, and the power of ten by which its numbers were multiplied
 abbrev pub row_line : Core → Run → List ℕ → ℕ → List ℕ
@@ -60,21 +60,21 @@ limits_line core s i limits =
 abbrev pub scenario_lines_of : Core → Run → ℕ → List (List ℕ)
 scenario_lines_of core run s =
     scenario_line run s ∷ map (λ i. limits_line core s i (limits_in run s i))
-        (range_with_len 0 (length run.program.rows))
+    (range_with_len 0 (length run.program.rows))
 
 -- all columns, and all rows
 abbrev pub column_lines_of : Core → Run → List (List ℕ)
 column_lines_of core run =
-  map (column_line core run) (range_with_len 0 (length run.program.columns))
+    map (column_line core run) (range_with_len 0 (length run.program.columns))
 
 abbrev pub row_lines_of : Core → Run → List ℕ → List (List ℕ)
 row_lines_of core run places =
-  map (row_line core run places) (range_with_len 0 (length run.program.rows))
+    map (row_line core run places) (range_with_len 0 (length run.program.rows))
 
 -- all scenarios, those of one after those of another
 abbrev pub all_scenario_lines : Core → Run → List (List ℕ)
 all_scenario_lines core run =
-  flat_map (scenario_lines_of core run) (range_with_len 0 (length run.program.scenarios))
+    flat_map (scenario_lines_of core run) (range_with_len 0 (length run.program.scenarios))
 
 -- all of it, with the places of the rows' powers of ten
 abbrev pub show_lines_of : Core → Run → List ℕ → List (List ℕ)

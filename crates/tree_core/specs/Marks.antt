@@ -36,12 +36,14 @@ nodes_at owners t = map (node t) (groups (mark_of owners t) (length owners))
 
 -- the tree of these marks
 unfoldable pub tree_of : ℕ → List (List ℕ) → Tree
-tree_of stages owners = record { stages = stages;
-  nodes = flat_map (nodes_at owners) (range_with_len 1 stages) }
+tree_of stages owners = record {
+  stages = stages;
+  nodes = flat_map (nodes_at owners) (range_with_len 1 stages);
+}
 
 -- equal marks at a stage are equal at the stage before
 abbrev pub AreNested : ℕ → List (List ℕ) → Type 0
 AreNested stages owners =
     (t s u : ℕ) → 1 ≤ t → t < stages → s < length owners → u < length owners
-        → mark_of owners (t + 1) s ≡ mark_of owners (t + 1) u
-        → mark_of owners t s ≡ mark_of owners t u
+    → mark_of owners (t + 1) s ≡ mark_of owners (t + 1) u
+    → mark_of owners t s ≡ mark_of owners t u

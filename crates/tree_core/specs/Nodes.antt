@@ -45,7 +45,7 @@ StandsOnce nodes t s = count_by (λ u. u == s) (members nodes t) ≡ 1
 -- scenarios s and u share a node of stage t
 abbrev pub Share : List Node → ℕ → ℕ → ℕ → Type 0
 Share nodes s u t =
-  Any (λ (n : Node). (n.stage ≡ t) × Contains n.scenarios s × Contains n.scenarios u) nodes
+    Any (λ (n : Node). (n.stage ≡ t) × Contains n.scenarios s × Contains n.scenarios u) nodes
 
 -- a node of these stages and of some of n scenarios, in ascending order
 pub record IsNode (stages count : ℕ) (n : Node) : Type 0 where

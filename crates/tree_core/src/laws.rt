@@ -25,7 +25,7 @@ pub fn tree_of_marks()
 pub fn nested_marks()
     ensures { (stages : ℕ) (owners : List (List ℕ)) →
         AreNested stages owners → AreNestedNodes stages (length owners)
-            (tree_of stages owners).nodes }
+        (tree_of stages owners).nodes }
 {}
 
 /// A scenario that stands once at a stage is in a node of that stage, so that

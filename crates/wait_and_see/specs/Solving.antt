@@ -12,5 +12,5 @@ abbrev pub SolvesIn : Run → ℕ → Result ℤ WaitFault → Type 0
 SolvesIn run s (Ok value) = least_of (problem_in run s) ≡ Some value
 SolvesIn run s (Err (Infeasible scenario)) = (scenario ≡ s) × (least_of (problem_in run s) ≡ None)
 SolvesIn run s (Err (Spent scenario opened)) = (scenario ≡ s) × (opened ≡ run.options.budget)
-  × (run.options.budget < ref_count (problem_in run s))
+    × (run.options.budget < ref_count (problem_in run s))
 SolvesIn run s (Err Memory) = Unit {0}

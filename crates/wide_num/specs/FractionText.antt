@@ -7,4 +7,4 @@ use Rattle.wide_num.specs.declared.fraction.Fraction.{Fraction}
 -- the text of a fraction: its top, and behind a slash (47) its bottom where that isn't 1
 abbrev pub text_of : Fraction → List ℕ
 text_of f = if int_eq f.bottom (pos 1) then signed_decimal f.top
-  else (signed_decimal f.top ++ 47 ∷ signed_decimal f.bottom)
+    else (signed_decimal f.top ++ 47 ∷ signed_decimal f.bottom)

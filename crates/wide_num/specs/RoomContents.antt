@@ -11,4 +11,4 @@ pub record Contents (X : Type 0) : Type 0 where
 abbrev pub contents_code : {X : Type 0} → Coded X → Coded (Contents X)
 contents_code {X} code =
     code_by (List X × ℕ) (coded× (coded_list code) coded_ℕ) (λ r. (r.items, r.spare))
-        (λ p. record { items = p.0; spare = p.1 }) (λ _. refl)
+    (λ p. record { items = p.0; spare = p.1 }) (λ _. refl)

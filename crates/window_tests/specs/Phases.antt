@@ -50,7 +50,7 @@ IsReadAt b s = ReadsFor (entry_of b.0) (λ w. b.0.width) b.0.windows (viewed b 0
 -- two leaders' windows of one width, up to three puts of each, and a reader of both: each writer
 -- has closed so many entries, and made so many steps of the next
 pub record IsBench (b : PlainValue Tiny) (s : Reader) (lasts steps : List ℕ)
-  (width : ℕ) : Type 0 where
+    (width : ℕ) : Type 0 where
   pub windows : b.0.windows ≡ 2
   pub leaders : b.0.leaders ≡ 2
   pub wide : width ≡ b.0.width

@@ -28,7 +28,7 @@ word wide words w i = slice_index words (start wide w + 1 + i)
 abbrev pub PartStands : (ℕ → ℕ → List ℕ) → (ℕ → ℕ) → List ℕ → ℕ → Option Pending → Type 0
 PartStands entry wide words w None = Unit {0}
 PartStands entry wide words w (Some p) = (1 ≤ p.entry) × (p.put ≤ wide w)
-  × ((i : ℕ) → i < p.put → word wide words w i ≡ slice_index (entry w p.entry) i)
+    × ((i : ℕ) → i < p.put → word wide words w i ≡ slice_index (entry w p.entry) i)
 
 -- what a seat has read, where the stamp of w is `now w`: while the stamp is the even one that the
 -- reading began at, the words are those of its entry
@@ -37,11 +37,11 @@ HasRead entry wide count now None = Unit {0}
 HasRead entry wide count now (Some r) =
     (r.window < count) × (r.first ≤ now r.window) × (length r.words ≤ wide r.window)
     × ((k : ℕ) → 1 ≤ k → r.first ≡ 2 * k → r.first ≡ now r.window → (i : ℕ) → i < length r.words
-        → slice_index r.words i ≡ slice_index (entry r.window k) i)
+    → slice_index r.words i ≡ slice_index (entry r.window k) i)
 
 -- what holds of a window that a seat owns
 pub record Account (entry : ℕ → ℕ → List ℕ) (wide : ℕ → ℕ) (dealt : ℕ) (words : List ℕ)
-  (owner : ℕ → ℕ) (seat : ℕ) (p : Option Pending) (a : Owned) : Type 0 where
+    (owner : ℕ → ℕ) (seat : ℕ) (p : Option Pending) (a : Owned) : Type 0 where
   pub below : a.window < dealt
   pub owned : owner a.window ≡ seat
   pub stamped : slice_index words (start wide a.window) ≡ stamp_of p a.closed
@@ -49,7 +49,7 @@ pub record Account (entry : ℕ → ℕ → List ℕ) (wide : ℕ → ℕ) (deal
 
 -- what holds of a seat's view
 pub record Knows (entry : ℕ → ℕ → List ℕ) (wide : ℕ → ℕ) (count : ℕ) (words : List ℕ)
-  (hub dealt : ℕ) (owner : ℕ → ℕ) (seat : ℕ) (v : View) : Type 0 where
+    (hub dealt : ℕ) (owner : ℕ → ℕ) (seat : ℕ) (v : View) : Type 0 where
   pub hubs : v.hub ≡ true → (seat ≡ hub) × (v.dealt ≡ dealt) × (v.stopped ≡ slice_index words 0)
   pub owns : All (Account entry wide dealt words owner seat v.pending) v.owned
   pub reads : HasRead entry wide count (stamp wide words) v.reading
@@ -59,13 +59,13 @@ pub record Knows (entry : ℕ → ℕ → List ℕ) (wide : ℕ → ℕ) (count 
 -- one that isn't older
 abbrev pub AreFollowing : ℕ → ℕ → (ℕ → ℕ) → Type 0
 AreFollowing leaders count now =
-  (w u : ℕ) → leaders ≤ w → w < count → u < leaders → (now w + 1) / 2 ≤ now u / 2
+    (w u : ℕ) → leaders ≤ w → w < count → u < leaders → (now w + 1) / 2 ≤ now u / 2
 
 -- The rule. No two seats own one window and no two are the hub's; windows that aren't handed out
 -- have stamp 0; an even stamp above 0 says that its entry stands whole; what a seat accepted of a
 -- window, the window's owner has closed.
 pub record Windows {M : Type 0} (entry : ℕ → ℕ → List ℕ) (wide : ℕ → ℕ) (count lead most : ℕ)
-  (of : M) (s : State ℕ (Known M)) : Type 0 where
+    (of : M) (s : State ℕ (Known M)) : Type 0 where
   pub hub : ℕ
   pub dealt : ℕ
   pub owner : ℕ → ℕ

@@ -34,8 +34,8 @@ module _ {M : Type 0} where
   abbrev pub begins : (M → ℕ → ℕ) → Step ℕ → Me ℕ (Known M) → ℕ → Me ℕ (Known M) → Type 0
   begins wide st m n m' =
       (of : M) (w : ℕ) → m.0.of ≡ Some of → st.word ≡ start (wide of) w
-          → Gains 0 (Begin w) n m m' × AcceptedBelow m.0.view w n × OwnStamp m.0.view w n
-          × AcceptedOwn m.0.view w
+      → Gains 0 (Begin w) n m m' × AcceptedBelow m.0.view w n × OwnStamp m.0.view w n
+      × AcceptedOwn m.0.view w
 
   abbrev pub reads : Step ℕ → Me ℕ (Known M) → ℕ → Me ℕ (Known M) → Type 0
   reads st m n m' = Gains 0 (Read 0) n m m'
@@ -45,14 +45,14 @@ module _ {M : Type 0} where
   abbrev pub IsEntry : (M → ℕ → ℕ → List ℕ) → (M → ℕ → ℕ) → (M → ℕ) → M → ℕ → Reading → Type 0
   IsEntry entry wide last of n r =
       (k : ℕ) → 1 ≤ k → r.first ≡ 2 * k → n ≡ r.first
-          → (k ≤ last of) × (length r.words ≡ wide of r.window → r.words ≡ entry of r.window k)
+      → (k ≤ last of) × (length r.words ≡ wide of r.window → r.words ≡ entry of r.window k)
 
   abbrev pub ends : (M → ℕ → ℕ → List ℕ) → (M → ℕ → ℕ) → (M → ℕ) → (M → ℕ) → Step ℕ → Me ℕ (Known M)
       → ℕ → Me ℕ (Known M) → Type 0
   ends entry wide lead last st m n m' =
       (of : M) (r : Reading) → m.0.of ≡ Some of → m.0.view.reading ≡ Some r
-          → Gains (lead of) (End r.window) n m m' × IsEntry entry wide last of n r
-          × IsBehindOwn (lead of) m.0.view r.window n
+      → Gains (lead of) (End r.window) n m m' × IsEntry entry wide last of n r
+      × IsBehindOwn (lead of) m.0.view r.window n
 
   abbrev pub stops : Step ℕ → Me ℕ (Known M) → ℕ → Me ℕ (Known M) → Type 0
   stops st m n m' = Gains 0 (Stop st.first) 0 m m'

@@ -63,7 +63,7 @@ add_once k ks = if list_any (λ j. nat_eq j k) ks then ks else (ks ++ k ∷ [])
 -- entry k of a window is accepted: a leader's is kept as the latest
 abbrev pub accept : ℕ → ℕ → ℕ → List (List ℕ) → List (List ℕ)
 accept leaders w k accepted = slice_set accepted w
-  (if nat_lt w leaders then k ∷ [] else add_once k (slice_index_or accepted w []))
+    (if nat_lt w leaders then k ∷ [] else add_once k (slice_index_or accepted w []))
 
 abbrev pub with_owned : View → List Owned → Option Pending → View
 with_owned v owned p = record v { owned = owned; pending = p }
@@ -81,7 +81,7 @@ with_stopped v last = record v { stopped = last }
 abbrev pub ended : ℕ → ℕ → View → Option Reading → View
 ended leaders n v None = v
 ended leaders n v (Some r) = if is_whole r.first n
-  then with_accepted v (accept leaders r.window (n / 2) v.accepted) else with_reading v None
+    then with_accepted v (accept leaders r.window (n / 2) v.accepted) else with_reading v None
 
 -- what a seat knows after a call and its answer n
 abbrev pub after : ℕ → Call → ℕ → View → View

@@ -32,12 +32,12 @@ reply_words (Some v) = 1 ∷ high_of v ∷ low_of v ∷ []
 -- the words of some multiplier and value
 abbrev pub AreCellWords : List ℕ → Type 0
 AreCellWords words =
-  (multiplier x : ℤ) × FitsSigned w128 multiplier × IsValue x × (words ≡ cell_words multiplier x)
+    (multiplier x : ℤ) × FitsSigned w128 multiplier × IsValue x × (words ≡ cell_words multiplier x)
 
 -- the words of some reply
 abbrev pub AreReplyWords : List ℕ → Type 0
 AreReplyWords words =
-  (words ≡ reply_words None) ⊎ ((v : ℤ) × FitsSigned w128 v × (words ≡ reply_words (Some v)))
+    (words ≡ reply_words None) ⊎ ((v : ℤ) × FitsSigned w128 v × (words ≡ reply_words (Some v)))
 
 -- the first n words are those that some value begins with
 abbrev pub BeginAlike : (List ℕ → Type 0) → List ℕ → ℕ → Type 0
