@@ -6,6 +6,9 @@ use Rattle.std.specs.List.{AllByRecursion}
 use Rattle.std.proofs.lemmas.List.{take-append-drop, take_more}
 use Rattle.base_words.specs.FirstAnswers.{first_some}
 
+pub same_some : {X : Type 0} {a b : X} → Some a ≡ Some b → a ≡ b
+same_some e = cc
+
 option_or_assoc : {B : Type 0} (a b c : Option B) → option_or a (option_or b c) ≡ option_or (option_or a b) c
 option_or_assoc None b c = refl
 option_or_assoc (Some v) b c = refl

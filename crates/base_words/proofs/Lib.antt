@@ -5,6 +5,7 @@ pub mod ListSums
 pub mod ListSumsByNumber
 pub mod Made
 pub mod Magnitudes
+pub mod NumberTests
 pub mod Products
 pub mod Quotients
 pub mod SumBounds

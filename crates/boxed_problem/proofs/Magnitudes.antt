@@ -8,7 +8,8 @@ use Rattle.std.specs.Int.{w128}
 use Rattle.std.specs.List.{All, sum_by}
 use Rattle.base_words.proofs.Magnitudes.{abs-add, abs_between, fits_from_abs}
 use Rattle.base_words.proofs.SumBounds.{sum_below-abs, size_below-le, size_below-part, fold-abs_all}
-use Rattle.boxed_problem.specs.Objective.{curve, value_part}
+use Rattle.boxed_problem.specs.Data.{Problem}
+use Rattle.boxed_problem.specs.Objective.{curve, value_of, value_part}
 use Rattle.boxed_problem.specs.BoxedFacts.{column_size, value_size, entry_size}
 use Rattle.boxed_problem.specs.Rows.{activity, activity_part}
 use Rattle.boxed_problem.specs.declared.parts.Entry.{Entry}
@@ -58,6 +59,13 @@ value_fits_upto columns constant line square x j i h f =
     let p = size_below-le j (length columns) (column_size columns line square) h in
     let t = abs-add constant (sum_below j (value_part line square x)) in
     fits_from_abs (constant +ℤ sum_below j (value_part line square x)) (omega (arith, s, p, t))
+
+-- the magnitude of a point's value
+pub objective_abs : (p : Problem) (x : List ℤ) → InBox p.columns x → unsigned_abs (value_of p x) ≤ value_size p.columns p.constant p.line p.square
+objective_abs p x inside =
+    let n = length p.columns in
+    let parts = sum_below-abs n (value_part p.line p.square x) (column_size p.columns p.line p.square) (λ k l. omega (arith, abs-curve (number_at p.line k) (number_at p.square k) (number_at x k), column_within p.columns p.line p.square x k inside l)) in
+    omega (arith, abs-add p.constant (sum_below n (value_part p.line p.square x)), parts)
 
 -- an entry's part has at most the entry's magnitude
 pub activity_part-size : (box : List Side) (x : List ℤ) (i : ℕ) (e : Entry) → InBox box x → e.column < length box → unsigned_abs (activity_part x i e) ≤ entry_size box i e

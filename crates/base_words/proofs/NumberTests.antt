@@ -1,0 +1,22 @@
+-- What tests of natural numbers say.
+
+use Rattle.std.proofs.Common.{arith, ◌≡◌, ℕ, ◌<◌, ◌≤◌, nat_le, nat_lt, true, false}
+
+pub less_from_test : (a b : ℕ) → nat_lt a b ≡ true → a < b
+less_from_test a b e = grind arith
+
+pub not_less_from_test : (a b : ℕ) → nat_lt a b ≡ false → b ≤ a
+not_less_from_test a b e = grind arith
+
+pub test_from_less : (a b : ℕ) → a < b → nat_lt a b ≡ true
+test_from_less a b l = grind arith
+
+pub test_from_not_less : (a b : ℕ) → b ≤ a → nat_lt a b ≡ false
+test_from_not_less a b l = grind arith
+
+-- whether a number is at least 1
+pub some_from_test : (a : ℕ) → nat_le 1 a ≡ true → 1 ≤ a
+some_from_test a e = grind arith
+
+pub none_from_test : (a : ℕ) → nat_le 1 a ≡ false → a ≡ 0
+none_from_test a e = grind arith
