@@ -14,7 +14,8 @@ use Rattle.core_lines.specs.declared.words.BoundKind.{BoundKind}
 -- as many fields as a kind asks for
 abbrev pub has_count : BoundKind → ℕ → Bool
 has_count kind count =
-    if has_value kind then (nat_le 3 count && nat_le count 4) else (nat_le 2 count && nat_le count 4)
+    if has_value kind then (nat_le 3 count && nat_le count 4)
+    else (nat_le 2 count && nat_le count 4)
 
 -- a number has at most nine places
 abbrev pub HasGoodPlaces : BoundValue → Type 0

@@ -59,7 +59,8 @@ marked_of lines = last_or false (said_in is_columns (λ before line. marks_in li
 
 abbrev pub cells_of : List TextLine → List Cell
 cells_of lines =
-    said_in is_columns (λ before line. cells_in (rows_of before) (column_names_of before) line) lines
+    said_in is_columns (λ before line. cells_in (rows_of before) (column_names_of before) line)
+    lines
 
 abbrev pub columns_of : List TextLine → ColumnsSaid
 columns_of lines = record {

@@ -31,7 +31,8 @@ AreLarge limits = 2 ^ 127 ≤ limits_size limits
 -- the limits of a row with this right-hand side
 abbrev pub limits_with : CoreRow → Decimal → ℕ → Limits
 limits_with row rhs places =
-    limits_by row.kind (scaled_to rhs places) (option_map (λ range. scaled_to range places) row.range)
+    limits_by row.kind (scaled_to rhs places)
+    (option_map (λ range. scaled_to range places) row.range)
 
 -- a change with a number that is large
 abbrev pub IsLargeChange : Change → Type 0

@@ -57,7 +57,8 @@ fn push(
         (columns.new
         ≡ columns.old ++ column_of (parts_of core.now) (firsts_of periods.now) frame.now j ∷ []) }
     ensures err { IfErr result
-        (ByUnfit (IsLargeColumn (column_of (parts_of core.now) (firsts_of periods.now) frame.now j))) }
+        (ByUnfit
+        (IsLargeColumn (column_of (parts_of core.now) (firsts_of periods.now) frame.now j))) }
 {
     match cost(core, frame, j) {
         None => Err(MakeFault::Unfit),

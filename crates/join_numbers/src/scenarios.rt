@@ -62,7 +62,8 @@ pub fn run_scenarios(
     ensures ok { IfOk result
         (λ scenarios. scenarios ≡ map (scenario_of (parts_of core.now) frame.now) listed.now) }
     ensures err { IfErr result
-        (ByUnfit (Any IsLargeScenario (map (scenario_of (parts_of core.now) frame.now) listed.now))) }
+        (ByUnfit
+        (Any IsLargeScenario (map (scenario_of (parts_of core.now) frame.now) listed.now))) }
 {
     let mut scenarios = List::new(alloc);
     for one in listed {

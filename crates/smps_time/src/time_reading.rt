@@ -164,7 +164,9 @@ impl Reading {
         requires header { line.now.line.now.header ≡ true }
         requires keeps { Keeps self.old }
         ensures passes { Passes (header_fault (before_in self.old) (text_of line.now))
-            result (GoesTo (names_of core.now) (before_in self.old) (text_of line.now) (before_in self.new)) }
+            result
+            (GoesTo (names_of core.now) (before_in self.old) (text_of line.now)
+            (before_in self.new)) }
         ensures keeps { Keeps self.new }
         ensures some { IfOk result (λ ended. ended ≡ true → min_periods ≤ length self.new.names) }
     {

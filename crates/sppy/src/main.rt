@@ -75,14 +75,16 @@ fn run_command<S: Shelf, K: Sink>(
     ensures words { IfOk given (λ words. (result ≡ Status.Words)
         ↔ (command_of (map string_bytes words.items) ≡ None)) }
     ensures answers { IfOk given (λ words. Answers (S.files shelf.old)
-        (command_of (map string_bytes words.items)) (K.written out.old) (K.written out.new) result) }
+        (command_of (map string_bytes words.items)) (K.written out.old) (K.written out.new)
+        result) }
     ensures refuses { IfOk given (λ words. Refuses (S.files shelf.old)
         (command_of (map string_bytes words.items)) result) }
     ensures complete { IfOk given (λ words. Completes (S.files shelf.old)
         (command_of (map string_bytes words.items)) (S.count shelf.old) (S.count shelf.new)
         (K.count out.old) (K.count out.new) result) }
     ensures names { IfOk given (λ words. LoadsNames (S.files shelf.old)
-        (command_of (map string_bytes words.items)) (S.names shelf.old) (S.names shelf.new) result) }
+        (command_of (map string_bytes words.items)) (S.names shelf.old) (S.names shelf.new)
+        result) }
     ensures files { S.files shelf.new ≡ S.files shelf.old }
     ensures reads { CountsTo (S.count shelf.old) (S.count shelf.new) (read_fault_of result) }
     ensures writes { CountsTo (K.count out.old) (K.count out.new) (write_fault_of result) }

@@ -22,7 +22,8 @@ heading_text i = concat (heading_of i.triple.core i.run)
 -- the places of the power of ten by which each row was multiplied
 abbrev pub places_of : Instance → List ℕ
 places_of i =
-    (frame_of (joined i.triple.core i.triple.periods i.triple.stoch i.run.options.missing)).row_places
+    (frame_of
+    (joined i.triple.core i.triple.periods i.triple.stoch i.run.options.missing)).row_places
 
 -- the text of `wait` behind the heading: the wait-and-see bound as the first pair and the last
 abbrev pub IsWaitRest : Instance → List ℕ → Type 0
