@@ -29,7 +29,7 @@ use Rattle.boxed_problem.proofs.Lying.{filled_at, within_at, within_self, within
 use Rattle.base_words.proofs.Products.{times_between}
 use Rattle.propagate.proofs.RangeLaws.{either_left, either_right}
 use Rattle.propagate.proofs.Widening.{high_falls, low_rises}
-use Rattle.branch_bound.proofs.SearchLaws.{search_best, search_on}
+use Rattle.branch_bound.proofs.SearchLaws.{improves_less, search_best, search_on}
 use Rattle.branch_bound.specs.Narrowing.{Descends, KeepsBetter, NoneBelow, NotPast}
 use Rattle.branch_bound.proofs.Ahead.{below_after, none_past, not_past-search, not_past-trans}
 
@@ -88,10 +88,6 @@ least_wider b inner outer w =
     least_on-holds (λ v. least_part b.line b.square outer j ≤ℤ v) (number_at b.line j) (number_at b.square j) (side_at inner j) (filled_at inner w.filled j)
     (λ x l u. least_on-le (number_at b.line j) (number_at b.square j) (side_at outer j) x (omega (arith, ints, a.0)) (omega (arith, ints, a.1)))) in
     omega (arith, ints, s)
-
-improves_less : (best : Option Best) (a v : ℤ) → a ≤ℤ v → improves a best ≡ false → improves v best ≡ false
-improves_less None a v h e = absurd cc
-improves_less (Some r) a v h e = let k = above_from_test a r.value e in test_from_above v r.value (omega (arith, ints))
 
 -- where the plain search wouldn't leave the sides, it doesn't leave a box that holds them
 pub not_pruned_wider : (b : Problem) (inner outer : List Side) (best : Option Best) → Within inner outer → is_pruned b inner best ≡ false → is_pruned b outer best ≡ false

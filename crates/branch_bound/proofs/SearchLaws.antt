@@ -23,7 +23,7 @@ use Rattle.boxed_problem.proofs.Listing.{corner_on}
 use Rattle.boxed_problem.proofs.Lying.{Lies, on_lies}
 use Rattle.boxed_problem.proofs.Members.{listed_on}
 use Rattle.propagate.proofs.RangeLaws.{either_left, either_right, rows_not_missed, single_met}
-use Rattle.base_words.proofs.Comparisons.{above_from_test, not_not, test_from_above}
+use Rattle.base_words.proofs.Comparisons.{above_from_test, left_fails, not_not, right_fails, test_from_above}
 
 -- two searches that agree on the halves go on alike
 go_on-same : (f g : List Side → Progress → Progress) (b : Problem) (box : List Side) (o : Option Halves) (p : Progress) →
@@ -67,16 +67,8 @@ search_on b box p o e d =
     search_step b box p
     ∙ (ap (λ t. if t then with_opened p else go_on (search b) b box (halves box) (with_opened p)) e ∙ ap (λ h. go_on (search b) b box h (with_opened p)) d)
 
-both_tests : (p q : Bool) → q ≡ false → (p && q) ≡ false
-both_tests true q h = h
-both_tests false q h = refl
-
-left_test : (p q : Bool) → p ≡ false → (p && q) ≡ false
-left_test true q h = absurd cc
-left_test false q h = refl
-
 -- where a least isn't below the best value, no point's value is
-improves_less : (best : Option Best) (a v : ℤ) → a ≤ℤ v → improves a best ≡ false → improves v best ≡ false
+pub improves_less : (best : Option Best) (a v : ℤ) → a ≤ℤ v → improves a best ≡ false → improves v best ≡ false
 improves_less None a v h e = absurd cc
 improves_less (Some r) a v h e = let k = above_from_test a r.value e in test_from_above v r.value (omega (arith, ints))
 
@@ -89,9 +81,9 @@ pruned_stays b box best x h e = ap (λ t. if t then Some (priced b x) else best)
     not_met false d m = refl
 
     not_taken : (m i : Bool) → misses_one (length b.rows) b.rows b.entries box ≡ m → improves (least_value b box) best ≡ i → (m || not i) ≡ true → (meets_all b x && improves (value_of b x) best) ≡ false
-    not_taken true i d k f = left_test (meets_all b x) (improves (value_of b x) best) (not_met (meets_all b x) refl d)
+    not_taken true i d k f = left_fails (meets_all b x) (improves (value_of b x) best) (not_met (meets_all b x) refl d)
     not_taken false true d k f = absurd cc
-    not_taken false false d k f = both_tests (meets_all b x) (improves (value_of b x) best) (improves_less best (least_value b box) (value_of b x) (least_holds b box x h) k)
+    not_taken false false d k f = right_fails (meets_all b x) (improves (value_of b x) best) (improves_less best (least_value b box) (value_of b x) (least_holds b box x h) k)
 
 stays : (b : Problem) (box : List Side) (best : Option Best) (xs : List (List ℤ)) → AllByRecursion (OnSides box) xs → is_pruned b box best ≡ true → best_after b best xs ≡ best
 stays b box best [] a e = refl

@@ -16,8 +16,6 @@ mod pricing;
 mod pruning;
 mod searching;
 mod stepping;
-#[cfg(test)]
-mod tests;
 
 pub use fault::SolveFault;
 pub use plain_law::{plain_counts_of_small, plain_search_is_unbounded};

@@ -3,22 +3,21 @@
 use Rattle.std.proofs.Common.{arith, refl, sym, ap, subst, ◌≡◌, ℕ, ◌+◌, ◌*◌, ◌^◌, ◌<◌, ◌≤◌, nat_lt, Bool, true, false, length, ℤ, pos, ◌+ℤ◌, unsigned_abs, FitsSigned, Option, Some, None, if◌then◌else◌}
 use Rattle.std.proofs.lemmas.Int.{ints}
 use Rattle.std.specs.Int.{w128}
-use Rattle.std.specs.Option.{option_map}
 use Rattle.base_words.specs.Sums.{number_at}
 use Rattle.base_words.proofs.Magnitudes.{abs-add, fits_from_abs}
-use Rattle.boxed_problem.specs.Optimum.{best_of}
-use Rattle.boxed_problem.specs.declared.parts.Best.{Best}
-use Rattle.boxed_problem.proofs.Optimal.{best_is}
 use Rattle.run_calls.specs.MultiplierTests.{AreSized, most_at}
 use Rattle.run_calls.proofs.MostBounds.{most_small}
-use Rattle.sp_model.specs.ScenarioPoints.{HasPoint, HavePoints, IsFirstInfeasible}
-use Rattle.put_words.proofs.Spans.{below_from_test, line_small}
+use Rattle.sp_model.specs.ScenarioPoints.{HasPoint, HavePoints}
+use Rattle.sp_model.proofs.DataFacts.{line_small}
 use Rattle.sp_model.specs.Plans.{multiplier_of}
 use Rattle.sp_model.specs.Problems.{least_of, problem_in, scenarios}
 use Rattle.sp_model.specs.declared.plan.Multipliers.{Multipliers}
 use Rattle.sp_model.specs.declared.run.Run.{Run}
-use Rattle.sp_model.proofs.ScenarioPoints.{run_filled}
-use Rattle.dual_value.specs.Duals.{DualFails, IsSpent, LeastFails, priced_at, priced_in}
+use Rattle.sp_model.proofs.LeastValues.{least_point}
+use Rattle.sp_model.proofs.ScenarioPoints.{first_infeasible, run_filled}
+use Rattle.base_words.proofs.NumberTests.{less_from_test}
+use Rattle.wait_and_see.proofs.Points.{spent_at}
+use Rattle.dual_value.specs.Duals.{DualFails, LeastFails, priced_at, priced_in}
 use Rattle.dual_value.specs.declared.summing.DualFault.{DualFault}
 use Rattle.dual_value.specs.declared.summing.DualFault.TheVariants.{NoPoint, Spent, Memory}
 
@@ -27,7 +26,7 @@ price_small run multipliers s j sized l = by_test (nat_lt j run.nonleaf) refl
   where
     by_test : (b : Bool) → nat_lt j run.nonleaf ≡ b → unsigned_abs (if b then number_at multipliers.values (s * run.nonleaf + j) else pos 0) ≤ 2 ^ 120
     by_test true e =
-        let below = below_from_test j run.nonleaf e in
+        let below = less_from_test j run.nonleaf e in
         let own : unsigned_abs (number_at multipliers.values (s * run.nonleaf + j)) ≤ most_at run j = omega (arith, sized s j l below, ap (λ b. unsigned_abs (if b then number_at multipliers.values (s * run.nonleaf + j) else pos 0)) e) in
         omega (arith, own, most_small run j below)
     by_test false e = omega (arith, ints)
@@ -39,20 +38,15 @@ priced_fits run multipliers s j sized l h =
     let price = multiplier_of run multipliers s j in
     fits_from_abs (cost +ℤ price) (omega (arith, abs-add cost price, line_small run s j l h, price_small run multipliers s j sized l))
 
--- a scenario with a least value has one, whatever the prices
+-- a scenario with a least value has a point, whatever the prices
 pub point_of : (run : Run) (multipliers : Multipliers) (s : ℕ) (value : ℤ) → least_of (priced_in run multipliers s) ≡ Some value → HasPoint run s
-point_of run multipliers s value has = by_best (best_of (priced_in run multipliers s)) refl has
-  where
-    by_best : (o : Option Best) → best_of (priced_in run multipliers s) ≡ o → option_map (λ (best : Best). best.value) o ≡ Some value → HasPoint run s
-    by_best None e h = absurd (let x = h in cc)
-    by_best (Some best) e h =
-        let is = best_is (priced_in run multipliers s) (Some best) (run_filled run) (sym e) in
-        (best.point, record { inside = is.feasible.inside; rows = is.feasible.rows })
+point_of run multipliers s value has =
+    let point = least_point (priced_in run multipliers s) value (run_filled run) has in
+    let feasible = point.1 in
+    (point.0, record { inside = feasible.inside; rows = feasible.rows })
 
 -- a scenario that isn't solved ends the sum
 pub ended_at : (run : Run) (multipliers : Multipliers) (budget s : ℕ) (fault : DualFault) → s < scenarios run → HavePoints run s → LeastFails run multipliers budget s fault → DualFails run multipliers budget fault
-ended_at run multipliers budget s (NoPoint scenario) there before (same, none) =
-    subst (IsFirstInfeasible run) (sym same) (record { there = there; none = none; before = before })
-ended_at run multipliers budget s (Spent scenario opened) there before (same, all, more) =
-    subst (λ t. IsSpent run multipliers budget t opened) (sym same) (record { there = there; before = before; opened_is = all; more = more })
+ended_at run multipliers budget s (NoPoint scenario) there before (same, none) = first_infeasible run s scenario there before same none
+ended_at run multipliers budget s (Spent scenario opened) there before (same, all, more) = spent_at run (priced_in run multipliers) budget s scenario opened there before same all more
 ended_at run multipliers budget s Memory there before free = tt

@@ -5,11 +5,12 @@ use Rattle.base_words.specs.Sums.{number_at}
 use Rattle.boxed_problem.specs.Data.{Problem}
 use Rattle.boxed_problem.specs.Optimum.{Feasible}
 use Rattle.branch_bound.specs.PlainSearch.{ref_count}
-use Rattle.sp_model.specs.ScenarioPoints.{HavePoints, IsFirstInfeasible}
+use Rattle.sp_model.specs.ScenarioPoints.{IsFirstInfeasible}
 use Rattle.sp_model.specs.Plans.{multiplier_of, with_prices}
-use Rattle.sp_model.specs.Problems.{problem_in, scenarios}
+use Rattle.sp_model.specs.Problems.{problem_in}
 use Rattle.sp_model.specs.declared.plan.Multipliers.{Multipliers}
 use Rattle.sp_model.specs.declared.run.Run.{Run}
+use Rattle.wait_and_see.specs.Spending.{IsSpentIn}
 use Rattle.dual_value.specs.declared.summing.DualFault.{DualFault}
 use Rattle.dual_value.specs.declared.summing.DualFault.TheVariants as fault
 
@@ -22,18 +23,11 @@ abbrev pub priced_at : Run → Multipliers → ℕ → ℕ → ℤ
 priced_at run multipliers s j =
     number_at (problem_in run s).line j +ℤ multiplier_of run multipliers s j
 
--- the search of scenario s is spent: all boxes of the budget were opened, the plain search opens
--- more, and each scenario before has a point
-pub record IsSpent (run : Run) (multipliers : Multipliers) (budget s opened : ℕ) : Type 0 where
-  pub there : s < scenarios run
-  pub before : HavePoints run s
-  pub opened_is : opened ≡ budget
-  pub more : budget < ref_count (priced_in run multipliers s)
-
 -- why there is no dual value
 abbrev pub DualFails : Run → Multipliers → ℕ → DualFault → Type 0
 DualFails run multipliers budget (fault.NoPoint s) = IsFirstInfeasible run s
-DualFails run multipliers budget (fault.Spent s opened) = IsSpent run multipliers budget s opened
+DualFails run multipliers budget (fault.Spent s opened) =
+    IsSpentIn run (priced_in run multipliers) budget s opened
 DualFails run multipliers budget fault.Memory = Unit {0}
 
 -- why the search of scenario s has no answer

@@ -7,3 +7,4 @@ pub use Rattle.run_calls.specs.MultiplierTests
 pub use Rattle.sp_model.specs.Plans
 pub use Rattle.sp_model.specs.Problems
 pub use Rattle.sp_model.specs.ScenarioPoints
+pub use Rattle.wait_and_see.specs.Spending

@@ -24,7 +24,8 @@ use Rattle.put_words.specs.NodeSums.{AreInside, sum_of, value_at, weight_at, wei
 use Rattle.put_words.proofs.Pulls.{pull_abs, pull_numerator_abs, raw_room, size_le}
 use Rattle.put_words.proofs.Rises.{move_abs, numerator_abs, rises_abs, weight_above, weight_most}
 use Rattle.put_words.proofs.Signed.{abs_less, abs_opposite}
-use Rattle.put_words.proofs.Weights.{node_sum_abs, part_abs, size_at, value_abs, weight_sum}
+use Rattle.sp_model.proofs.LeastSums.{weight_size}
+use Rattle.put_words.proofs.Weights.{node_sum_abs, part_abs, value_abs, weight_sum}
 
 -- total weight times a box
 total_box : (run : Run) (j : ℕ) → j < run.nonleaf → unsigned_abs run.total * box_reach run.program j ≤ 2 ^ 90
@@ -38,8 +39,8 @@ part_fits run x s j inside l h =
     fits_from_abs (weight_at run s *ℤ value_at run x s j) (omega (arith, part_abs run x s j inside l h, mul-le-mul (size_le run s l) same, total_box run j h))
 
 -- the weights of some scenarios of a node
-front_weight : (run : Run) (ns : List ℕ) (k : ℕ) → AreMembers run ns → sum_by (size_at run) (take k ns) ≤ unsigned_abs run.total
-front_weight run ns k members = omega (arith, sum_by-take-le (size_at run) ns k, weight_most run ns members.ascending members.there)
+front_weight : (run : Run) (ns : List ℕ) (k : ℕ) → AreMembers run ns → sum_by (weight_size run) (take k ns) ≤ unsigned_abs run.total
+front_weight run ns k members = omega (arith, sum_by-take-le (weight_size run) ns k, weight_most run ns members.ascending members.there)
 
 node_sum_small : (run : Run) (x : List ℤ) (ns : List ℕ) (j k : ℕ) → AreInside run x → AreMembers run ns → j < run.nonleaf → unsigned_abs (sum_of run x (take k ns) j) ≤ 2 ^ 90
 node_sum_small run x ns j k inside members h =
@@ -53,7 +54,7 @@ pub weight_sum_fits : (run : Run) (ns : List ℕ) (k : ℕ) → AreMembers run n
 weight_sum_fits run ns k members =
     let below = All-take (λ s. s < scenarios run) k ns members.there in
     let weight = ap unsigned_abs (weight_sum run (take k ns) (recursion_from_All (λ s. s < scenarios run) (take k ns) below)) in
-    let same : unsigned_abs (weight_of run (take k ns)) ≡ sum_by (size_at run) (take k ns) = weight in
+    let same : unsigned_abs (weight_of run (take k ns)) ≡ sum_by (weight_size run) (take k ns) = weight in
     fits_from_abs (weight_of run (take k ns)) (omega (arith, same, front_weight run ns k members, total_abs run))
 
 -- the members of a node
@@ -77,7 +78,7 @@ whole_abs : (run : Run) (x : List ℤ) (n s j : ℕ) → AreInside run x → n <
 whole_abs run x n s j inside l below h =
     let ns = scenarios_at run.program.tree.nodes n in
     let members = node_members run n l in
-    let weight : unsigned_abs (weight_of run ns) ≡ sum_by (size_at run) ns = ap unsigned_abs (weight_sum run ns (recursion_from_All (λ k. k < scenarios run) ns members.there)) in
+    let weight : unsigned_abs (weight_of run ns) ≡ sum_by (weight_size run) ns = ap unsigned_abs (weight_sum run ns (recursion_from_All (λ k. k < scenarios run) ns members.there)) in
     let most : unsigned_abs (weight_of run ns) ≤ unsigned_abs run.total = omega (arith, weight_most run ns members.ascending members.there) in
     omega (arith, unsigned_abs-mul (weight_of run ns) (value_at run x s j), mul-le-mul most (value_abs run x s j inside below h), total_box run j h)
 
@@ -99,14 +100,14 @@ apart_fits run x n s j inside l below h =
 
 pub rate_small : (run : Run) (s : ℕ) → s < scenarios run → unsigned_abs (run.options.rho *ℤ weight_at run s) ≤ 2 ^ 90
 rate_small run s l =
-    let weight : size_at run s ≤ 2 ^ 60 = omega (arith, size_le run s l, total_abs run) in
+    let weight : weight_size run s ≤ 2 ^ 60 = omega (arith, size_le run s l, total_abs run) in
     omega (arith, unsigned_abs-mul run.options.rho (weight_at run s), mul-le-mul (rho_abs run) weight)
 
 pub rate_fits : (run : Run) (s : ℕ) → s < scenarios run → FitsSigned w128 (run.options.rho *ℤ weight_at run s)
 rate_fits run s l = fits_from_abs (run.options.rho *ℤ weight_at run s) (omega (arith, rate_small run s l))
 
 -- weight times weight times twice the penalty and a box
-raw_small : (run : Run) (n s j : ℕ) → n < length run.program.tree.nodes → s < scenarios run → j < run.nonleaf → sum_by (size_at run) (scenarios_at run.program.tree.nodes n) * (size_at run s * (2 * unsigned_abs run.options.rho * box_reach run.program j)) ≤ 2 ^ 120
+raw_small : (run : Run) (n s j : ℕ) → n < length run.program.tree.nodes → s < scenarios run → j < run.nonleaf → sum_by (weight_size run) (scenarios_at run.program.tree.nodes n) * (weight_size run s * (2 * unsigned_abs run.options.rho * box_reach run.program j)) ≤ 2 ^ 120
 raw_small run n s j l below h =
     let members = node_members run n l in
     let unit = 2 * unsigned_abs run.options.rho * box_reach run.program j in

@@ -9,12 +9,14 @@ use Rattle.boxed_problem.specs.Optimum.{best_of}
 use Rattle.boxed_problem.specs.declared.parts.Best.{Best}
 use Rattle.put_words.specs.NextMultipliers.{moved, next_of}
 use Rattle.put_words.specs.Puts.{bests_below, early_values, Made, made_from}
-use Rattle.sp_model.specs.ScenarioPoints.{HavePoints, IsFirstInfeasible}
+use Rattle.sp_model.specs.ScenarioPoints.{HavePoints}
 use Rattle.put_words.proofs.Points.{bests_next}
-use Rattle.sp_model.specs.Problems.{least_of, scenarios}
+use Rattle.sp_model.specs.Problems.{least_of, problem_in, scenarios}
 use Rattle.sp_model.specs.declared.plan.Multipliers.{Multipliers}
 use Rattle.sp_model.specs.declared.run.Run.{Run}
-use Rattle.hedging.specs.Hedges.{FirstFails, IsSpent}
+use Rattle.sp_model.proofs.ScenarioPoints.{first_infeasible}
+use Rattle.wait_and_see.proofs.Points.{spent_at}
+use Rattle.hedging.specs.Hedges.{FirstFails}
 use Rattle.hedging.specs.Solves.{BestFails}
 use Rattle.hedging.specs.declared.hedge.FirstFault.{FirstFault}
 use Rattle.hedging.specs.declared.hedge.FirstFault.TheVariants.{Infeasible, Spent, Memory}
@@ -45,8 +47,6 @@ least_is problem best e = ap (λ o. option_map (λ (b : Best). b.value) o) e
 
 -- a scenario that isn't solved ends the search
 pub ended_at : (run : Run) (s : ℕ) (fault : FirstFault) → s < scenarios run → HavePoints run s → BestFails run s fault → FirstFails run fault
-ended_at run s (Infeasible scenario) there before (same, none) =
-    subst (IsFirstInfeasible run) (sym same) (record { there = there; none = none; before = before })
-ended_at run s (Spent scenario opened) there before (same, all, more) =
-    subst (λ t. IsSpent run t opened) (sym same) (record { there = there; before = before; opened_is = all; more = more })
+ended_at run s (Infeasible scenario) there before (same, none) = first_infeasible run s scenario there before same none
+ended_at run s (Spent scenario opened) there before (same, all, more) = spent_at run (problem_in run) run.options.budget s scenario opened there before same all more
 ended_at run s Memory there before free = tt

@@ -7,14 +7,14 @@ use Rattle.base_words.proofs.Made.{made_at}
 use Rattle.tree_core.specs.Nodes.{scenarios_at}
 use Rattle.run_calls.specs.MultiplierTests.{node_at}
 use Rattle.sp_model.specs.declared.run.Run.{Run}
+use Rattle.base_words.proofs.NumberTests.{test_from_less}
 use Rattle.put_words.specs.NodeSums.{sum_of, weight_of}
 use Rattle.hedging.specs.Totals.{AreTotals, IsInner, node_sums, node_width}
 use Rattle.hedging.specs.declared.totals.Totals.{Totals}
-use Rattle.hedging.proofs.Stages.{test_from_below}
 
 -- a sum for each nonleaf column
 width_is : (run : Run) (n : ℕ) → IsInner run n → node_width run (node_at run n) ≡ run.nonleaf
-width_is run n inner = ap (λ b. if b then run.nonleaf else 0) (test_from_below (node_at run n).stage run.program.tree.stages inner.early)
+width_is run n inner = ap (λ b. if b then run.nonleaf else 0) (test_from_less (node_at run n).stage run.program.tree.stages inner.early)
 
 -- and no more
 pub width_le : (run : Run) (n : ℕ) → node_width run (node_at run n) ≤ run.nonleaf

@@ -16,6 +16,8 @@ use Rattle.sp_model.specs.Problems.{scenarios}
 use Rattle.sp_model.specs.Plans.{no_column, stage_of}
 use Rattle.sp_model.specs.declared.program.Column.{Column}
 use Rattle.sp_model.specs.declared.run.Run.{Run}
+use Rattle.base_words.proofs.NumberTests.{less_from_test, not_less_from_test, test_from_less, test_from_not_less}
+use Rattle.base_words.proofs.FirstAnswers.{same_some}
 use Rattle.run_calls.proofs.MostBounds.{early_column}
 
 -- where no column from j on is before stage t, at most j are
@@ -36,23 +38,14 @@ count_few t (c ∷ cs) (suc j) h =
     small true = omega arith
     small false = omega arith
 
-above_from_test : (a b : ℕ) → nat_lt a b ≡ false → b ≤ a
-above_from_test a b e = grind arith
-
-below_from_test : (a b : ℕ) → nat_lt a b ≡ true → a < b
-below_from_test a b e = grind arith
-
-test_from_above : (a b : ℕ) → b ≤ a → nat_lt a b ≡ false
-test_from_above a b l = grind arith
-
 -- a later column is of no earlier stage
 later : (run : Run) (j k : ℕ) → j ≤ k → k < length run.program.columns → stage_of run j ≤ stage_of run k
 later run j k l m = by_place (nat_lt j k) refl
   where
     by_place : (b : Bool) → nat_lt j k ≡ b → stage_of run j ≤ stage_of run k
-    by_place true p = run.facts.stages.rising j k no_column (below_from_test j k p) m
+    by_place true p = run.facts.stages.rising j k no_column (less_from_test j k p) m
     by_place false p =
-        let over = above_from_test j k p in
+        let over = not_less_from_test j k p in
         let same : k ≡ j = omega arith in
         omega (arith, ap (λ i. stage_of run i) same)
 
@@ -60,11 +53,11 @@ pub early_stage : (run : Run) (j : ℕ) → j < run.nonleaf → stage_of run j <
 early_stage run j h = by_test (nat_lt (stage_of run j) run.program.tree.stages) refl
   where
     by_test : (b : Bool) → nat_lt (stage_of run j) run.program.tree.stages ≡ b → stage_of run j < run.program.tree.stages
-    by_test true e = below_from_test (stage_of run j) run.program.tree.stages e
+    by_test true e = less_from_test (stage_of run j) run.program.tree.stages e
     by_test false e =
         let stages = run.program.tree.stages in
-        let late = above_from_test (stage_of run j) stages e in
-        let few = count_few stages run.program.columns j (λ k l m. test_from_above (stage_of run k) stages (omega (arith, later run j k l m, late))) in
+        let late = not_less_from_test (stage_of run j) stages e in
+        let few = count_few stages run.program.columns j (λ k l m. test_from_not_less (stage_of run k) stages (omega (arith, later run j k l m, late))) in
         absurd (omega (arith, few, h, run.facts.stages.nonleaf_is))
 
 -- the node of a scenario at the stage of a nonleaf column
@@ -89,12 +82,6 @@ nodes_long run s = length-map-range_with_len (λ k. node_place run.program.tree.
 pub some_stage : (run : Run) (j : ℕ) → j < run.nonleaf → 1 ≤ stage_of run j
 some_stage run j h = (run.facts.stages.columns j no_column (early_column run j h)).early
 
-same_number : {a b : ℕ} → Some a ≡ Some b → a ≡ b
-same_number e = cc
-
-pub test_from_below : (a b : ℕ) → a < b → nat_lt a b ≡ true
-test_from_below a b l = grind arith
-
 -- a scenario stands once at each stage
 pub stands_at : (run : Run) (s t : ℕ) → s < scenarios run → 1 ≤ t → t ≤ run.program.tree.stages → StandsOnce run.program.tree.nodes t s
 stands_at run s t l early late = run.facts.tree.once t s early late l
@@ -104,4 +91,4 @@ pub number_is : (run : Run) (s t n : ℕ) → s < scenarios run → 1 ≤ t → 
 number_is run s t n l early late e =
     let nodes = run.program.tree.nodes in
     let there = node_there nodes t s (stands_at run s t l early late) in
-    same_number (e ∙ ap (λ b. cond b (Some (node_place nodes s t)) None) (test_from_below (node_place nodes s t) (length nodes) there))
+    same_some (e ∙ ap (λ b. cond b (Some (node_place nodes s t)) None) (test_from_less (node_place nodes s t) (length nodes) there))

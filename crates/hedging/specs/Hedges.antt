@@ -4,10 +4,11 @@ use Rattle.std.specs.Prelude.{◌≡◌, ℕ, ◌<◌, Some}
 use Rattle.branch_bound.specs.PlainSearch.{ref_count}
 use Rattle.put_words.specs.Hedged.{hedged_in}
 use Rattle.put_words.specs.Puts.{Made, put_of}
-use Rattle.sp_model.specs.ScenarioPoints.{HavePoints, IsFirstInfeasible}
-use Rattle.sp_model.specs.Problems.{problem_in, scenarios, wait_and_see_of}
+use Rattle.sp_model.specs.ScenarioPoints.{IsFirstInfeasible}
+use Rattle.sp_model.specs.Problems.{scenarios, wait_and_see_of}
 use Rattle.run_calls.specs.declared.put.Put.{Put}
 use Rattle.sp_model.specs.declared.run.Run.{Run}
+use Rattle.wait_and_see.specs.Spending.{IsSpent}
 use Rattle.hedging.specs.declared.hedge.FirstFault.{FirstFault}
 use Rattle.hedging.specs.declared.hedge.FirstFault.TheVariants as first_fault
 use Rattle.hedging.specs.declared.hedge.Hedge.{Hedge}
@@ -21,14 +22,6 @@ made_of hedge = record { put = hedge.put; plan = hedge.plan }
 -- put 1, and the wait-and-see bound
 abbrev pub IsFirst : Run → Hedge → Type 0
 IsFirst run hedge = (put_of run 1 ≡ Some (made_of hedge)) × (wait_and_see_of run ≡ Some hedge.bound)
-
--- the search of scenario s is spent: all boxes of the budget were opened, the plain search opens
--- more, and each scenario before has a point
-pub record IsSpent (run : Run) (s opened : ℕ) : Type 0 where
-  pub there : s < scenarios run
-  pub before : HavePoints run s
-  pub opened_is : opened ≡ run.options.budget
-  pub more : run.options.budget < ref_count (problem_in run s)
 
 -- why there is no first put
 abbrev pub FirstFails : Run → FirstFault → Type 0

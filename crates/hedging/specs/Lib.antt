@@ -16,3 +16,4 @@ pub use Rattle.sp_model.specs.Plans
 pub use Rattle.sp_model.specs.Problems
 pub use Rattle.sp_model.specs.ScenarioPoints
 pub use Rattle.tree_core.specs.Nodes
+pub use Rattle.wait_and_see.specs.Spending

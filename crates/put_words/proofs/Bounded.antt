@@ -22,79 +22,23 @@ use Rattle.sp_model.specs.declared.run.Run.{Run}
 use Rattle.sp_model.proofs.ScenarioPoints.{run_filled}
 use Rattle.sp_model.proofs.Bounds.{factor_abs, reach_parts}
 use Rattle.sp_model.proofs.DataFacts.{boxed_is}
-use Rattle.run_calls.proofs.MostBounds.{hedge_within}
 use Rattle.sp_model.proofs.Sizes.{size_below-mono, size_below-times, zeros_at}
 use Rattle.put_words.specs.Objectives.{with_line}
 use Rattle.put_words.specs.NodeSums.{weight_at}
-use Rattle.put_words.proofs.Spans.{cost_span, least_abs, line_part, line_parts_le, priced_span}
-use Rattle.put_words.proofs.Weights.{size_at, total_abs_is}
+use Rattle.sp_model.proofs.CostSpans.{cost_span, line_part, line_parts_le}
+use Rattle.sp_model.proofs.LeastValues.{least_abs}
+use Rattle.put_words.proofs.Spans.{priced_span}
+use Rattle.sp_model.proofs.LeastSums.{line_room, sum_span}
+use Rattle.base_words.proofs.FirstAnswers.{same_some}
 
-same_some : {a b : ℤ} → Some a ≡ Some b → a ≡ b
-same_some e = cc
-
--- the size of a scenario's own problem
-plain_span : (run : Run) (s : ℕ) → s < scenarios run → value_size (sides run.program) (problem_in run s).constant (problem_in run s).line (problem_in run s).square ≤ unsigned_abs (factor_of run s) * cost_span run.program
-plain_span run s l =
-    let n = length run.program.columns in
-    let costs = (data_at run s).costs in
-    let each = size_below-mono n (column_size (sides run.program) (problem_in run s).line (problem_in run s).square) (line_part run s) (λ j h. flat j (ap unsigned_abs (zeros_at costs j))) in
-    let long = ap (λ k. size_below k (column_size (sides run.program) (problem_in run s).line (problem_in run s).square)) (length-map run.program.columns side_of) in
-    omega (arith, each, long, line_parts_le run s l)
-  where
-    flat : (j : ℕ) → unsigned_abs (number_at (problem_in run s).square j) ≡ 0 → column_size (sides run.program) (problem_in run s).line (problem_in run s).square j ≤ line_part run s j
-    flat j e = omega (arith, ap (λ k. k * (box_reach run.program j * box_reach run.program j)) e)
-
--- the factors of the first scenarios
-factors_le : (run : Run) (k : ℕ) → k ≤ scenarios run → size_below k (λ s. unsigned_abs (factor_of run s)) ≤ unsigned_abs run.options.scale * unsigned_abs run.total
-factors_le run k h =
-    let scale = unsigned_abs run.options.scale in
-    let each = size_below-mono k (λ s. unsigned_abs (factor_of run s)) (λ s. scale * size_at run s) (λ s l. omega (arith, unsigned_abs-mul run.options.scale (weight_at run s))) in
-    let weights : size_below k (size_at run) ≤ unsigned_abs run.total = omega (arith, size_below-le k (scenarios run) (size_at run) h, total_abs_is run) in
-    let same : scale ≤ scale = omega arith in
-    omega (arith, each, size_below-times k scale (size_at run), mul-le-mul same weights)
-
--- a sum of least values, term by term
-sum_span : (f : ℕ → Option ℤ) (g : ℕ → ℕ) (c e k : ℕ) (v : ℤ) → ((s : ℕ) (u : ℤ) → s < k → f s ≡ Some u → unsigned_abs u ≤ g s * c + e) → sum_some k f ≡ Some v → unsigned_abs v ≤ size_below k g * c + k * e
-sum_span f g c e zero v h d = let z = same_some d in omega (arith, ints, ap unsigned_abs z)
-sum_span f g c e (suc k) v h d = by_front (sum_some k f) refl (f k) refl d (λ u p. sum_span f g c e k u (λ s w l q. h s w (omega arith) q) p)
-  where
-    by_front : (s : Option ℤ) → sum_some k f ≡ s → (t : Option ℤ) → f k ≡ t → option_and_then (λ sum. option_map (λ least. sum +ℤ least) t) s ≡ Some v → ((u : ℤ) → sum_some k f ≡ Some u → unsigned_abs u ≤ size_below k g * c + k * e) → unsigned_abs v ≤ (size_below k g + g k) * c + suc k * e
-    by_front None p t q d2 r = absurd (let x = d2 in cc)
-    by_front (Some sum) p None q d2 r = absurd (let x = d2 in cc)
-    by_front (Some sum) p (Some least) q d2 r =
-        let whole = same_some d2 in
-        let split : (size_below k g + g k) * c ≡ size_below k g * c + g k * c = mul_comm (size_below k g + g k) c ∙ mul-add c (size_below k g) (g k) ∙ omega (arith, mul_comm c (size_below k g), mul_comm c (g k)) in
-        omega (arith, ap unsigned_abs (sym whole), abs-add sum least, r sum p, h k least (omega arith) q, split, suc-mul k e)
-
--- one least value more
-pub sum_next : (f : ℕ → Option ℤ) (k : ℕ) (sum least whole : ℤ) → sum_some k f ≡ Some sum → f k ≡ Some least → whole ≡ (sum +ℤ least) → sum_some (k + 1) f ≡ Some whole
-sum_next f k sum least whole e d w =
-    let next : k + 1 ≡ suc k = omega arith in
-    ap (λ n. sum_some n f) next
-    ∙ ap (λ t. option_and_then (λ s. option_map (λ l. s +ℤ l) t) (sum_some k f)) d
-    ∙ ap (λ s. option_and_then (λ z. option_map (λ l. z +ℤ l) (Some least)) s) e
-    ∙ ap Some (sym w)
-
-line_room : (run : Run) (k : ℕ) → k ≤ scenarios run → size_below k (λ s. unsigned_abs (factor_of run s)) * cost_span run.program ≤ 2 ^ 119
-line_room run k h =
-    let same : cost_span run.program ≤ cost_span run.program = omega arith in
-    let total = (reach_parts run).0 in
-    omega (arith, mul-le-mul (factors_le run k h) same, total)
-
--- the sum of the least values of the first scenarios
-pub wait_small : (run : Run) (k : ℕ) (v : ℤ) → k ≤ scenarios run → sum_some k (λ s. least_of (problem_in run s)) ≡ Some v → unsigned_abs v ≤ 2 ^ 120
-wait_small run k v h e =
-    let bound = sum_span (λ s. least_of (problem_in run s)) (λ s. unsigned_abs (factor_of run s)) (cost_span run.program) 0 k v (λ s u l d. omega (arith, least_abs (problem_in run s) u (run_filled run) d, plain_span run s (omega arith))) e in
-    omega (arith, bound, line_room run k h)
-
--- the same with multipliers as prices
+-- the sum of the least values of the first scenarios, with multipliers as prices
 pub dual_small : (run : Run) (multipliers : Multipliers) (k : ℕ) (v : ℤ) → AreSized run multipliers → k ≤ scenarios run → sum_some k (λ s. least_of (with_prices (problem_in run s) (multiplier_of run multipliers s))) ≡ Some v → unsigned_abs v ≤ 2 ^ 121
 dual_small run multipliers k v sized h e =
     let hedge = hedge_reach run.program run.options run.total run.nonleaf in
     let bound = sum_span (λ s. least_of (with_prices (problem_in run s) (multiplier_of run multipliers s))) (λ s. unsigned_abs (factor_of run s)) (cost_span run.program) hedge k v (λ s u l d. omega (arith, least_abs (with_prices (problem_in run s) (multiplier_of run multipliers s)) u (run_filled run) d, priced_span run multipliers s sized (omega arith))) e in
     let many : k ≤ 2 * length run.program.scenarios = omega arith in
     let same : hedge ≤ hedge = omega arith in
-    omega (arith, bound, line_room run k h, mul-le-mul many same, hedge_within run)
+    omega (arith, bound, line_room run k h, mul-le-mul many same, (reach_parts run).1)
 
 -- a priced problem is one that fits its type
 pub priced_boxed : (run : Run) (multipliers : Multipliers) (s : ℕ) → AreSized run multipliers → s < scenarios run →
@@ -116,7 +60,7 @@ priced_boxed run multipliers s sized l =
       convex = old.convex;
       places = old.places;
       ascending = old.ascending;
-      value_fits = omega (arith, priced_span run multipliers s sized l, line, total, part, hedge_within run);
+      value_fits = omega (arith, priced_span run multipliers s sized l, line, total, part, (reach_parts run).1);
       rows_fit = old.rows_fit;
     }
 

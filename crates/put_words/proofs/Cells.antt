@@ -7,6 +7,7 @@ use Rattle.std.proofs.lemmas.Nat.{mul-add-lt}
 use Rattle.std.proofs.Math.Nat.{mul_comm, suc-mul}
 use Rattle.std.specs.List.{range_with_len}
 use Rattle.base_words.specs.Gathered.{gathered}
+use Rattle.base_words.proofs.NumberTests.{less_from_test, not_less_from_test}
 
 -- row s, with the items of m columns
 abbrev pub row : {X : Type 0} → ℕ → (ℕ → ℕ → X) → ℕ → List X
@@ -16,22 +17,16 @@ pub cells_length : {X : Type 0} (n m : ℕ) (f : ℕ → ℕ → X) → length (
 cells_length zero m f = omega arith
 cells_length (suc n) m f = omega (arith, length-append (gathered n (row m f)) (row m f n), cells_length n m f, length-map-range_with_len (f n) 0 m, suc-mul n m)
 
-below_from_test : (a b : ℕ) → nat_lt a b ≡ true → a < b
-below_from_test a b e = grind arith
-
-above_from_test : (a b : ℕ) → nat_lt a b ≡ false → b ≤ a
-above_from_test a b e = grind arith
-
 pub cell_at : {X : Type 0} (n m : ℕ) (f : ℕ → ℕ → X) (s j : ℕ) (d : X) → s < n → j < m → get_or (gathered n (row m f)) (s * m + j) d ≡ f s j
 cell_at zero m f s j d h k = absurd (omega arith)
 cell_at (suc n) m f s j d h k = by_test (nat_lt s n) refl (λ l. cell_at n m f s j d l k)
   where
     by_test : (t : Bool) → nat_lt s n ≡ t → (s < n → get_or (gathered n (row m f)) (s * m + j) d ≡ f s j) → get_or (gathered (suc n) (row m f)) (s * m + j) d ≡ f s j
     by_test true e r =
-        let l = below_from_test s n e in
+        let l = less_from_test s n e in
         get_or_append_left (gathered n (row m f)) (row m f n) d (s * m + j) (omega (arith, cells_length n m f, mul-add-lt s m j n l k, mul_comm n m)) ∙ r l
     by_test false e r =
-        let over = above_from_test s n e in
+        let over = not_less_from_test s n e in
         let same : s ≡ n = omega arith in
         let at : get_or (gathered (suc n) (row m f)) (n * m + j) d ≡ get_or (row m f n) (n * m + j - n * m) d = get_or-append_right (gathered n (row m f)) (row m f n) (n * m) (n * m + j) d (cells_length n m f) (omega arith) in
         ap (λ i. get_or (gathered (suc n) (row m f)) (i * m + j) d) same

@@ -17,6 +17,7 @@ use Rattle.sp_model.specs.Problems.{problem_in, scenarios}
 use Rattle.sp_model.specs.declared.plan.Multipliers.{Multipliers}
 use Rattle.sp_model.specs.declared.run.Run.{Run}
 use Rattle.sp_model.proofs.ScenarioPoints.{run_filled}
+use Rattle.base_words.proofs.FirstAnswers.{same_some}
 use Rattle.run_calls.proofs.MostBounds.{early_column}
 use Rattle.put_words.specs.Hedged.{hedged_in}
 use Rattle.put_words.specs.NextMultipliers.{moved, next_of, no_multipliers}
@@ -24,9 +25,6 @@ use Rattle.put_words.specs.NodeSums.{AreInside}
 use Rattle.put_words.specs.Puts.{bests_below, early_values, Made, made_from, put_of}
 use Rattle.put_words.proofs.Cells.{cells_length}
 use Rattle.put_words.proofs.Points.{AreBests, bests_are, firsts_at, firsts_length}
-
-same_some : {X : Type 0} {a b : X} → Some a ≡ Some b → a ≡ b
-same_some e = cc
 
 -- problems over the boxes of a run
 abbrev pub OverBoxes : Run → (ℕ → Problem) → Type 0

@@ -15,6 +15,7 @@ use Rattle.sp_model.specs.Plans.{AreBalanced, multiplier_of, stage_of}
 use Rattle.sp_model.specs.Problems.{scenarios}
 use Rattle.sp_model.specs.declared.plan.Multipliers.{Multipliers}
 use Rattle.sp_model.specs.declared.run.Run.{Run}
+use Rattle.base_words.proofs.NumberTests.{test_from_less}
 use Rattle.put_words.specs.NextMultipliers.{front_of, last_of, move_in, moved, next_of, no_multipliers, rise}
 use Rattle.put_words.proofs.Bundles.{bundle_is}
 use Rattle.put_words.proofs.Cells.{cell_at}
@@ -56,11 +57,8 @@ moves_zero run x ns j l ascending =
 pub next_at : (run : Run) (multipliers : Multipliers) (x : List ℤ) (s j : ℕ) → s < scenarios run → j < run.nonleaf → multiplier_of run (next_of run multipliers x) s j ≡ moved run multipliers x s j
 unfolding next_of
 next_at run multipliers x s j l h =
-    ap (λ b. if b then number_at (next_of run multipliers x).values (s * run.nonleaf + j) else pos 0) (test_from_below j run.nonleaf h)
+    ap (λ b. if b then number_at (next_of run multipliers x).values (s * run.nonleaf + j) else pos 0) (test_from_less j run.nonleaf h)
     ∙ cell_at (scenarios run) run.nonleaf (moved run multipliers x) s j (pos 0) l h
-  where
-    test_from_below : (a b : ℕ) → a < b → nat_lt a b ≡ true
-    test_from_below a b k = grind arith
 
 pub next_balanced : (run : Run) (multipliers : Multipliers) (x : List ℤ) → AreBalanced run multipliers → AreBalanced run (next_of run multipliers x)
 next_balanced run multipliers x balanced i d l j h e =

@@ -10,21 +10,14 @@ use Rattle.base_words.specs.Sums.{number_at}
 use Rattle.boxed_problem.specs.Data.{Problem}
 use Rattle.boxed_problem.specs.Optimum.{best_of}
 use Rattle.boxed_problem.specs.declared.parts.Best.{Best}
+use Rattle.base_words.proofs.NumberTests.{less_from_test, not_less_from_test}
+use Rattle.base_words.proofs.FirstAnswers.{same_some}
 use Rattle.put_words.specs.Puts.{bests_below}
-
-same_some : {X : Type 0} {a b : X} → Some a ≡ Some b → a ≡ b
-same_some e = cc
 
 -- a list has the best point of each problem
 pub record AreBests (n : ℕ) (problems : ℕ → Problem) (points : List (List ℤ)) : Type 0 where
   pub long : length points ≡ n
   pub each : (s : ℕ) → s < n → (best : Best) × (best_of (problems s) ≡ Some best) × (get_or points s [] ≡ best.point)
-
-below_from_test : (a b : ℕ) → nat_lt a b ≡ true → a < b
-below_from_test a b e = grind arith
-
-above_from_test : (a b : ℕ) → nat_lt a b ≡ false → b ≤ a
-above_from_test a b e = grind arith
 
 -- one problem more
 pub bests_more : (n : ℕ) (problems : ℕ → Problem) (front points : List (List ℤ)) (best : Best) → AreBests n problems front → best_of (problems n) ≡ Some best → points ≡ front ++ best.point ∷ [] → AreBests (suc n) problems points
@@ -35,11 +28,11 @@ bests_more n problems front points best before e whole = record {
   where
     by_last : (s : ℕ) → s < suc n → (t : Bool) → nat_lt s n ≡ t → (b : Best) × (best_of (problems s) ≡ Some b) × (get_or points s [] ≡ b.point)
     by_last s l true e2 =
-        let early = below_from_test s n e2 in
+        let early = less_from_test s n e2 in
         let old = before.each s early in
         (old.0, old.1, ap (λ ps. get_or ps s []) whole ∙ get_or_append_left front (best.point ∷ []) [] s (omega (arith, before.long)) ∙ old.2)
     by_last s l false e2 =
-        let over = above_from_test s n e2 in
+        let over = not_less_from_test s n e2 in
         let same : s ≡ n = omega arith in
         let at : s ≡ length front = omega (arith, before.long) in
         (best, ap (λ k. best_of (problems k)) same ∙ e, ap (λ ps. get_or ps s []) whole ∙ ap (λ k. get_or (front ++ best.point ∷ []) k []) at ∙ get_or-append_seam front best.point [] [])

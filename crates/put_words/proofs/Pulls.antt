@@ -26,15 +26,17 @@ use Rattle.sp_model.specs.declared.plan.Multipliers.{Multipliers}
 use Rattle.sp_model.specs.declared.run.Run.{Run}
 use Rattle.sp_model.proofs.Bounds.{factor_abs, reach_parts}
 use Rattle.sp_model.proofs.DataFacts.{boxed_is}
-use Rattle.run_calls.proofs.MostBounds.{hedge_within}
 use Rattle.sp_model.proofs.Sizes.{greatest_le, size_below-mono, size_below-times}
 use Rattle.put_words.specs.Hedged.{hedged_in, hedged_line, hedged_square, pull}
 use Rattle.put_words.specs.Objectives.{with_objective}
 use Rattle.put_words.specs.NodeSums.{AreInside, bundle, node_for, sum_of, weight_at}
 use Rattle.put_words.proofs.Rises.{floor_abs, node_below, weight_above}
 use Rattle.put_words.proofs.Signed.{abs_less}
-use Rattle.put_words.proofs.Spans.{below_from_test, cost_span, cut_le, line_part, line_parts_le, sizes_add}
-use Rattle.put_words.proofs.Weights.{node_sum_abs, size_at, total_abs_is, weight_sum}
+use Rattle.sp_model.proofs.CostSpans.{cost_span, line_part, line_parts_le}
+use Rattle.put_words.proofs.Spans.{cut_le, sizes_add}
+use Rattle.sp_model.proofs.LeastSums.{total_abs_is, weight_size}
+use Rattle.base_words.proofs.NumberTests.{less_from_test}
+use Rattle.put_words.proofs.Weights.{node_sum_abs, weight_sum}
 
 raw_is : (w r m : ℕ) → w * (w * (2 * r * m)) ≡ 2 * r * (w * w) * m
 raw_is w r m = grind arith
@@ -52,12 +54,12 @@ raw_room run j h =
     let own = greatest_le (box_reach run.program) columns j 0 (omega (arith, length-range_with_len 0 run.nonleaf)) in
     let below : m ≤ max 1 most = omega (arith, at, ap (box_reach run.program) zeroth, own) in
     let same : 2 * r * (w * w) ≤ 2 * r * (w * w) = omega arith in
-    let raw = (reach_parts run).1 in
+    let raw = (reach_parts run).2 in
     omega (arith, mul-le-mul same below, raw_is w r m, raw)
 
 -- a weight is at most the total
-pub size_le : (run : Run) (s : ℕ) → s < scenarios run → size_at run s ≤ unsigned_abs run.total
-size_le run s l = omega (arith, size_below-part (scenarios run) (size_at run) s l, total_abs_is run)
+pub size_le : (run : Run) (s : ℕ) → s < scenarios run → weight_size run s ≤ unsigned_abs run.total
+size_le run s l = omega (arith, size_below-part (scenarios run) (weight_size run) s l, total_abs_is run)
 
 pull_is : (r w u m : ℕ) → (2 * (r * w)) * (u * m) ≡ u * (w * (2 * r * m))
 pull_is r w u m = grind arith
@@ -67,26 +69,26 @@ twice_abs a = unsigned_abs-mul (pos 2) a
 
 -- the numerator of a pull
 pub pull_numerator_abs : (run : Run) (x : List ℤ) (ns : List ℕ) (j s : ℕ) → AreInside run x → All (λ u. u < scenarios run) ns → j < run.nonleaf →
-    unsigned_abs ((pos 2 *ℤ (run.options.rho *ℤ weight_at run s)) *ℤ sum_of run x ns j) ≤ sum_by (size_at run) ns * (size_at run s * (2 * unsigned_abs run.options.rho * box_reach run.program j))
+    unsigned_abs ((pos 2 *ℤ (run.options.rho *ℤ weight_at run s)) *ℤ sum_of run x ns j) ≤ sum_by (weight_size run) ns * (weight_size run s * (2 * unsigned_abs run.options.rho * box_reach run.program j))
 pull_numerator_abs run x ns j s inside below h =
     let r = unsigned_abs run.options.rho in
-    let w = size_at run s in
-    let u = sum_by (size_at run) ns in
+    let w = weight_size run s in
+    let u = sum_by (weight_size run) ns in
     let m = box_reach run.program j in
     let rate : unsigned_abs (pos 2 *ℤ (run.options.rho *ℤ weight_at run s)) ≡ 2 * (r * w) = twice_abs (run.options.rho *ℤ weight_at run s) ∙ ap (λ k. 2 * k) (unsigned_abs-mul run.options.rho (weight_at run s)) in
     let same : 2 * (r * w) ≤ 2 * (r * w) = omega arith in
     let whole = unsigned_abs-mul (pos 2 *ℤ (run.options.rho *ℤ weight_at run s)) (sum_of run x ns j) in
     omega (arith, whole, ap (λ k. k * unsigned_abs (sum_of run x ns j)) rate, mul-le-mul same (node_sum_abs run x ns j inside below h), pull_is r w u m)
 
-pub pull_abs : (run : Run) (x : List ℤ) (s j : ℕ) → AreInside run x → s < scenarios run → j < run.nonleaf → unsigned_abs (pull run x s j) ≤ size_at run s * (2 * unsigned_abs run.options.rho * box_reach run.program j)
+pub pull_abs : (run : Run) (x : List ℤ) (s j : ℕ) → AreInside run x → s < scenarios run → j < run.nonleaf → unsigned_abs (pull run x s j) ≤ weight_size run s * (2 * unsigned_abs run.options.rho * box_reach run.program j)
 pull_abs run x s j inside l h =
     let n = node_for run s j in
     let ns = bundle run s j in
     let fact : IsNode run.program.tree.stages (scenarios run) (node_at run n) = run.facts.tree.nodes n no_node (node_below run s j l h) in
-    let u = sum_by (size_at run) ns in
+    let u = sum_by (weight_size run) ns in
     let z = (pos 2 *ℤ (run.options.rho *ℤ weight_at run s)) *ℤ sum_of run x ns j in
     let weight = weight_sum run ns (recursion_from_All (λ k. k < scenarios run) ns fact.there) in
-    let bound = floor_abs z u (size_at run s * (2 * unsigned_abs run.options.rho * box_reach run.program j)) (weight_above run ns fact.there fact.filled) (pull_numerator_abs run x ns j s inside fact.there h) in
+    let bound = floor_abs z u (weight_size run s * (2 * unsigned_abs run.options.rho * box_reach run.program j)) (weight_above run ns fact.there fact.filled) (pull_numerator_abs run x ns j s inside fact.there h) in
     omega (arith, bound, ap (λ d. unsigned_abs (int_div_euclid z d)) weight)
 
 -- the linear and the square part of a column
@@ -120,7 +122,7 @@ hedged_part_le : (run : Run) (multipliers : Multipliers) (x : List ℤ) (s j : �
     + unsigned_abs (if b then run.options.rho *ℤ weight_at run s else pos 0) * (box_reach run.program j * box_reach run.program j)
     ≤ 2 * line_part run s j + (if b then hedge_part run.program run.options run.total j else 0)
 hedged_part_le run multipliers x s j sized inside l true e =
-    let h = below_from_test j run.nonleaf e in
+    let h = less_from_test j run.nonleaf e in
     let r = unsigned_abs run.options.rho in
     let w = unsigned_abs run.total in
     let m = box_reach run.program j in
@@ -168,7 +170,7 @@ hedged_span run multipliers x s sized inside l =
     let same_hedge : hedge_reach run.program run.options run.total run.nonleaf ≤ hedge_reach run.program run.options run.total run.nonleaf = omega arith in
     let hedge = mul-le-mul one same_hedge in
     let total = (reach_parts run).0 in
-    omega (arith, each, long, sizes_add n doubled cut, size_below-times n 2 (line_part run s), cut_le n run.nonleaf part, line_parts_le run s l, line, total, hedge, hedge_within run)
+    omega (arith, each, long, sizes_add n doubled cut, size_below-times n 2 (line_part run s), cut_le n run.nonleaf part, line_parts_le run s l, line, total, hedge, (reach_parts run).1)
 
 not_negative : (a b : ℤ) → pos 1 ≤ℤ a → pos 1 ≤ℤ b → pos 0 ≤ℤ (a *ℤ b)
 not_negative (pos n) b h k =

@@ -27,7 +27,8 @@ use Rattle.put_words.proofs.Bundles.{stands}
 use Rattle.put_words.proofs.Inside.{each_put}
 use Rattle.put_words.proofs.Moves.{next_at, nothing_at}
 use Rattle.put_words.proofs.Signed.{abs_less, abs_opposite}
-use Rattle.put_words.proofs.Weights.{node_sum_abs, size_at, total_abs_is, value_abs, weight_some, weight_sum}
+use Rattle.sp_model.proofs.LeastSums.{total_abs_is, weight_size}
+use Rattle.put_words.proofs.Weights.{node_sum_abs, value_abs, weight_some, weight_sum}
 
 -- a number of at most w times c, divided by w and rounded down, is of at most c
 pub floor_abs : (z : ℤ) (w c : ℕ) → 0 < w → unsigned_abs z ≤ w * c → unsigned_abs (int_div_euclid z (pos w)) ≤ c
@@ -48,11 +49,11 @@ regroup r w u m = grind arith
 
 -- the numerator of a rise
 pub numerator_abs : (run : Run) (x : List ℤ) (ns : List ℕ) (j s : ℕ) → AreInside run x → All (λ u. u < scenarios run) ns → s < scenarios run → j < run.nonleaf →
-    unsigned_abs ((run.options.rho *ℤ weight_at run s) *ℤ ((weight_of run ns *ℤ value_at run x s j) -ℤ sum_of run x ns j)) ≤ sum_by (size_at run) ns * (size_at run s * (2 * unsigned_abs run.options.rho * box_reach run.program j))
+    unsigned_abs ((run.options.rho *ℤ weight_at run s) *ℤ ((weight_of run ns *ℤ value_at run x s j) -ℤ sum_of run x ns j)) ≤ sum_by (weight_size run) ns * (weight_size run s * (2 * unsigned_abs run.options.rho * box_reach run.program j))
 numerator_abs run x ns j s inside below l h =
     let r = unsigned_abs run.options.rho in
-    let w = size_at run s in
-    let u = sum_by (size_at run) ns in
+    let w = weight_size run s in
+    let u = sum_by (weight_size run) ns in
     let m = box_reach run.program j in
     let weight = ap unsigned_abs (weight_sum run ns (recursion_from_All (λ k. k < scenarios run) ns below)) in
     let same : u ≤ u = omega arith in
@@ -64,33 +65,33 @@ numerator_abs run x ns j s inside below l h =
     omega (arith, whole, ap (λ k. k * unsigned_abs ((weight_of run ns *ℤ value_at run x s j) -ℤ sum_of run x ns j)) rate, mul-le-mul same_rate apart, regroup r w u m)
 
 -- the weight of a node that isn't empty
-pub weight_above : (run : Run) (ns : List ℕ) → All (λ u. u < scenarios run) ns → 0 < length ns → 0 < sum_by (size_at run) ns
+pub weight_above : (run : Run) (ns : List ℕ) → All (λ u. u < scenarios run) ns → 0 < length ns → 0 < sum_by (weight_size run) ns
 weight_above run ns below some =
     let first = get_or ns 0 0 in
-    omega (arith, weight_some run first (below 0 0 some), get_or-le-sum_by (size_at run) ns 0 0 some)
+    omega (arith, weight_some run first (below 0 0 some), get_or-le-sum_by (weight_size run) ns 0 0 some)
 
 pub rise_abs : (run : Run) (x : List ℤ) (ns : List ℕ) (j s : ℕ) → AreInside run x → All (λ u. u < scenarios run) ns → 0 < length ns → s < scenarios run → j < run.nonleaf →
-    unsigned_abs (rise run x ns j s) ≤ size_at run s * (2 * unsigned_abs run.options.rho * box_reach run.program j)
+    unsigned_abs (rise run x ns j s) ≤ weight_size run s * (2 * unsigned_abs run.options.rho * box_reach run.program j)
 rise_abs run x ns j s inside below some l h =
-    let u = sum_by (size_at run) ns in
+    let u = sum_by (weight_size run) ns in
     let z = (run.options.rho *ℤ weight_at run s) *ℤ ((weight_of run ns *ℤ value_at run x s j) -ℤ sum_of run x ns j) in
     let weight = weight_sum run ns (recursion_from_All (λ k. k < scenarios run) ns below) in
-    let bound = floor_abs z u (size_at run s * (2 * unsigned_abs run.options.rho * box_reach run.program j)) (weight_above run ns below some) (numerator_abs run x ns j s inside below l h) in
+    let bound = floor_abs z u (weight_size run s * (2 * unsigned_abs run.options.rho * box_reach run.program j)) (weight_above run ns below some) (numerator_abs run x ns j s inside below l h) in
     omega (arith, bound, ap (λ d. unsigned_abs (int_div_euclid z d)) weight)
 
 -- the sum of the rises of some of a node's scenarios
 pub rises_abs : (run : Run) (x : List ℤ) (ns : List ℕ) (j k : ℕ) → AreInside run x → All (λ u. u < scenarios run) ns → 0 < length ns → j < run.nonleaf →
-    unsigned_abs (sum_z (rise run x ns j) (take k ns)) ≤ sum_by (size_at run) (take k ns) * (2 * unsigned_abs run.options.rho * box_reach run.program j)
+    unsigned_abs (sum_z (rise run x ns j) (take k ns)) ≤ sum_by (weight_size run) (take k ns) * (2 * unsigned_abs run.options.rho * box_reach run.program j)
 rises_abs run x ns j k inside below some h =
     let c = 2 * unsigned_abs run.options.rho * box_reach run.program j in
     let front = take k ns in
     let front_below = All-take (λ u. u < scenarios run) k ns below in
-    let each = recursion_from_All (λ s. unsigned_abs (rise run x ns j s) ≤ size_at run s * c) front (λ i d l. rise_abs run x ns j (get_or front i d) inside below some (front_below i d l) h) in
-    omega (arith, sum_abs (rise run x ns j) (λ s. size_at run s * c) front each, sum_by-times (size_at run) c front)
+    let each = recursion_from_All (λ s. unsigned_abs (rise run x ns j s) ≤ weight_size run s * c) front (λ i d l. rise_abs run x ns j (get_or front i d) inside below some (front_below i d l) h) in
+    omega (arith, sum_abs (rise run x ns j) (λ s. weight_size run s * c) front each, sum_by-times (weight_size run) c front)
 
 -- the weight of a node is at most the total
-pub weight_most : (run : Run) (ns : List ℕ) → AllPairs (λ s u. s < u) ns → All (λ u. u < scenarios run) ns → sum_by (size_at run) ns ≤ unsigned_abs run.total
-weight_most run ns pairs below = omega (arith, members_le (size_at run) (scenarios run) ns pairs below, total_abs_is run)
+pub weight_most : (run : Run) (ns : List ℕ) → AllPairs (λ s u. s < u) ns → All (λ u. u < scenarios run) ns → sum_by (weight_size run) ns ≤ unsigned_abs run.total
+weight_most run ns pairs below = omega (arith, members_le (weight_size run) (scenarios run) ns pairs below, total_abs_is run)
 
 regroup_step : (w r m : ℕ) → w * (2 * r * m) ≡ 2 * r * w * m
 regroup_step w r m = grind arith
@@ -112,13 +113,13 @@ move_abs run x n j s inside l below h = by_last (run.facts.tree.nodes n no_node 
     by_last fact true =
         let ns = members_at run n in
         let same : unit_rise run j ≤ unit_rise run j = omega arith in
-        let front = sum_by-take-le (size_at run) ns (length ns - 1) in
-        let weight : sum_by (size_at run) (front_of ns) ≤ unsigned_abs run.total = omega (arith, front, weight_most run ns fact.ascending fact.there) in
+        let front = sum_by-take-le (weight_size run) ns (length ns - 1) in
+        let weight : sum_by (weight_size run) (front_of ns) ≤ unsigned_abs run.total = omega (arith, front, weight_most run ns fact.ascending fact.there) in
         omega (arith, abs_opposite (sum_z (rise run x ns j) (front_of ns)), rises_abs run x ns j (length ns - 1) inside fact.there fact.filled h, mul-le-mul weight same, regroup_step (unsigned_abs run.total) (unsigned_abs run.options.rho) (box_reach run.program j))
     by_last fact false =
         let ns = members_at run n in
         let same : unit_rise run j ≤ unit_rise run j = omega arith in
-        let weight : size_at run s ≤ unsigned_abs run.total = omega (arith, size_below-part (scenarios run) (size_at run) s below, total_abs_is run) in
+        let weight : weight_size run s ≤ unsigned_abs run.total = omega (arith, size_below-part (scenarios run) (weight_size run) s below, total_abs_is run) in
         omega (arith, rise_abs run x ns j s inside fact.there fact.filled below h, mul-le-mul weight same, regroup_step (unsigned_abs run.total) (unsigned_abs run.options.rho) (box_reach run.program j))
 
 -- the node of a scenario at a column's stage is there

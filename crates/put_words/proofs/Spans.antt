@@ -27,55 +27,10 @@ use Rattle.sp_model.specs.Reaching.{box_reach, cost_reach, hedge_part, hedge_rea
 use Rattle.sp_model.specs.declared.plan.Multipliers.{Multipliers}
 use Rattle.sp_model.specs.declared.program.Program.{Program}
 use Rattle.sp_model.specs.declared.run.Run.{Run}
-use Rattle.sp_model.proofs.Bounds.{cost_le, factor_abs, reach_parts}
+use Rattle.sp_model.proofs.CostSpans.{cost_span, line_part, line_parts_le}
 use Rattle.sp_model.proofs.DataFacts.{data_keeps}
-use Rattle.run_calls.proofs.MostBounds.{none_from_test, some_from_test}
 use Rattle.sp_model.proofs.Sizes.{size_below-mono, size_below-times, times_at, zeros_at}
-
--- the magnitude of a point's value
-value_abs : (p : Problem) (x : List ℤ) → InBox p.columns x → unsigned_abs (value_of p x) ≤ value_size p.columns p.constant p.line p.square
-value_abs p x inside =
-    let n = length p.columns in
-    let parts = sum_below-abs n (value_part p.line p.square x) (column_size p.columns p.line p.square) (λ k l. omega (arith, abs-curve (number_at p.line k) (number_at p.square k) (number_at x k), column_within p.columns p.line p.square x k inside l)) in
-    omega (arith, abs-add p.constant (sum_below n (value_part p.line p.square x)), parts)
-
--- the magnitude of a least value
-pub least_abs : (p : Problem) (v : ℤ) → Filled p.columns → least_of p ≡ Some v → unsigned_abs v ≤ value_size p.columns p.constant p.line p.square
-least_abs p v filled e = by_best (best_of p) (best_is p (best_of p) filled refl) e
-  where
-    by_best : (o : Option Best) → IsBest p o → option_map (λ (best : Best). best.value) o ≡ Some v → unsigned_abs v ≤ value_size p.columns p.constant p.line p.square
-    by_best None h d = absurd (let y = d in cc)
-    by_best (Some best) h d =
-        let same : best.value ≡ v = cc in
-        omega (arith, ap unsigned_abs (sym same ∙ h.value), value_abs p best.point h.feasible.inside)
-
--- the magnitude of a scenario's costs, but for their factor
-abbrev pub cost_span : Program → ℕ
-cost_span program = unsigned_abs program.constant + size_below (length program.columns) (λ j. cost_reach program j * box_reach program j)
-
--- what a column of the scenario's problem adds
-abbrev pub line_part : Run → ℕ → ℕ → ℕ
-line_part run s j = unsigned_abs (number_at (problem_in run s).line j) * box_reach run.program j
-
-line_part_le : (run : Run) (s j : ℕ) → s < scenarios run → line_part run s j ≤ unsigned_abs (factor_of run s) * (cost_reach run.program j * box_reach run.program j)
-line_part_le run s j l =
-    let costs = (data_at run s).costs in
-    let m = box_reach run.program j in
-    let f = unsigned_abs (factor_of run s) in
-    let line : unsigned_abs (number_at (problem_in run s).line j) ≡ f * unsigned_abs (number_at costs j) = ap unsigned_abs (times_at (factor_of run s) costs j) ∙ unsigned_abs-mul (factor_of run s) (number_at costs j) in
-    let same : f ≤ f = omega arith in
-    let same_box : m ≤ m = omega arith in
-    let wide = mul-le-mul (mul-le-mul same (cost_le run s j l)) same_box in
-    omega (arith, ap (λ n. n * m) line, wide, mul_assoc f (cost_reach run.program j) m)
-
--- the parts of all columns, with the constant
-pub line_parts_le : (run : Run) (s : ℕ) → s < scenarios run → unsigned_abs (factor_of run s *ℤ run.program.constant) + size_below (length run.program.columns) (line_part run s) ≤ unsigned_abs (factor_of run s) * cost_span run.program
-line_parts_le run s l =
-    let n = length run.program.columns in
-    let f = unsigned_abs (factor_of run s) in
-    let c : ℕ → ℕ = λ j. cost_reach run.program j * box_reach run.program j in
-    let parts = size_below-mono n (line_part run s) (λ j. f * c j) (λ j h. line_part_le run s j l) in
-    omega (arith, unsigned_abs-mul (factor_of run s) run.program.constant, parts, size_below-times n f c, mul-add f (unsigned_abs run.program.constant) (size_below n c))
+use Rattle.base_words.proofs.NumberTests.{less_from_test, none_from_test, some_from_test}
 
 -- a sum of which only the first parts count
 pub cut_le : (n m : ℕ) (g : ℕ → ℕ) → size_below n (λ j. if nat_lt j m then g j else 0) ≤ size_below m g
@@ -96,16 +51,13 @@ pub sizes_add : (n : ℕ) (f g : ℕ → ℕ) → size_below n (λ k. f k + g k)
 sizes_add zero f g = omega arith
 sizes_add (suc n) f g = omega (arith, sizes_add n f g)
 
-pub below_from_test : (a b : ℕ) → nat_lt a b ≡ true → a < b
-below_from_test a b e = grind arith
-
 -- a column's multiplier times its box: a part of the hedge in a nonleaf column, and 0 in another
 price_part_le : (run : Run) (multipliers : Multipliers) (s j : ℕ) → AreSized run multipliers → s < scenarios run → unsigned_abs (multiplier_of run multipliers s j) * box_reach run.program j ≤ (if nat_lt j run.nonleaf then hedge_part run.program run.options run.total j else 0)
 price_part_le run multipliers s j sized l = by_test (nat_lt j run.nonleaf) refl
   where
     by_test : (b : Bool) → nat_lt j run.nonleaf ≡ b → unsigned_abs (if b then number_at multipliers.values (s * run.nonleaf + j) else pos 0) * box_reach run.program j ≤ (if b then hedge_part run.program run.options run.total j else 0)
     by_test true e =
-        let below = below_from_test j run.nonleaf e in
+        let below = less_from_test j run.nonleaf e in
         let own : unsigned_abs (number_at multipliers.values (s * run.nonleaf + j)) ≤ most_at run j = omega (arith, sized s j l below, ap (λ b. unsigned_abs (if b then number_at multipliers.values (s * run.nonleaf + j) else pos 0)) e) in
         let twice : unsigned_abs (number_at multipliers.values (s * run.nonleaf + j)) ≤ 2 * most_at run j = omega arith in
         let same : box_reach run.program j ≤ box_reach run.program j = omega arith in
@@ -140,26 +92,3 @@ priced_span run multipliers s sized l =
     omega (arith, ap (λ z. unsigned_abs z * m) (priced_at run multipliers s j h), added, split, flat, price_part_le run multipliers s j sized l)) in
     let long = ap (λ k. size_below k (column_size (sides run.program) line (problem_in run s).square)) (length-map run.program.columns side_of) in
     omega (arith, each, long, sizes_add n (line_part run s) (λ j. if nat_lt j run.nonleaf then part j else 0), cut_le n run.nonleaf part, line_parts_le run s l)
-
--- the cost of a column in a scenario's problem
-pub line_small : (run : Run) (s j : ℕ) → s < scenarios run → j < length run.program.columns → unsigned_abs (number_at (problem_in run s).line j) ≤ 2 ^ 122
-line_small run s j l h = by_box (nat_le 1 (box_reach run.program j)) refl
-  where
-    by_box : (b : Bool) → nat_le 1 (box_reach run.program j) ≡ b → unsigned_abs (number_at (problem_in run s).line j) ≤ 2 ^ 122
-    by_box true e =
-        let some = some_from_test (box_reach run.program j) e in
-        let cost = unsigned_abs (number_at (problem_in run s).line j) in
-        let same : cost ≤ cost = omega arith in
-        let wide = mul-le-mul same some in
-        let span = cost_span run.program in
-        let same_span : span ≤ span = omega arith in
-        let line = mul-le-mul (factor_abs run s l) same_span in
-        let total = (reach_parts run).0 in
-        omega (arith, wide, size_below-part (length run.program.columns) (line_part run s) j h, line_parts_le run s l, line, total)
-    by_box false e =
-        let none = none_from_test (box_reach run.program j) e in
-        let costs = (data_at run s).costs in
-        let free = (data_keeps run s l).idle j none in
-        let zero : number_at (problem_in run s).line j ≡ pos 0 = times_at (factor_of run s) costs j ∙ ap (λ z. factor_of run s *ℤ z) free ∙ *ℤ-zero (factor_of run s) in
-        let nothing : unsigned_abs (number_at (problem_in run s).line j) ≡ 0 = ap unsigned_abs zero in
-        omega arith

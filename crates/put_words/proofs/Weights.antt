@@ -18,69 +18,34 @@ use Rattle.sp_model.specs.declared.program.Scenario.{Scenario}
 use Rattle.sp_model.specs.declared.run.Run.{Run}
 use Rattle.run_calls.proofs.MemberSums.{sum_abs, sum_by-times}
 use Rattle.boxed_problem.specs.Sides.{side_at}
+use Rattle.sp_model.proofs.Bounds.{abs_some}
+use Rattle.sp_model.proofs.LeastSums.{positive_is, weight_size}
 use Rattle.put_words.specs.NodeSums.{AreInside, sum_of, value_at, weight_at, weight_of}
 
--- the size of the weight of scenario s
-abbrev pub size_at : Run → ℕ → ℕ
-size_at run s = unsigned_abs (weight_at run s)
-
-positive_is : (a : ℤ) → pos 1 ≤ℤ a → a ≡ pos (unsigned_abs a)
-positive_is (pos a) h = refl
-positive_is (negsuc a) h = absurd (omega (arith, ints))
-
-positive_some : (a : ℤ) → pos 1 ≤ℤ a → 1 ≤ unsigned_abs a
-positive_some (pos a) h = omega (arith, ints)
-positive_some (negsuc a) h = absurd (omega (arith, ints))
-
-pub weight_is : (run : Run) (s : ℕ) → s < scenarios run → weight_at run s ≡ pos (size_at run s)
+pub weight_is : (run : Run) (s : ℕ) → s < scenarios run → weight_at run s ≡ pos (weight_size run s)
 weight_is run s l = positive_is (weight_at run s) (run.facts.scenarios s no_scenario l).positive
 
-pub weight_some : (run : Run) (s : ℕ) → s < scenarios run → 1 ≤ size_at run s
-weight_some run s l = positive_some (weight_at run s) (run.facts.scenarios s no_scenario l).positive
-
--- a sum over a list, place by place
-sum_by_places : (g : Scenario → ℕ) (ss : List Scenario) (k : ℕ) → k ≤ length ss → size_below k (λ i. g (get_or ss i no_scenario)) ≡ sum_by g (take k ss)
-sum_by_places g ss zero h = refl
-sum_by_places g ss (suc k) h =
-    let next : suc k ≡ k + 1 = omega arith in
-    omega (arith, sum_by_places g ss k (omega arith), sum_by_more g ss k no_scenario (omega arith), ap (λ i. sum_by g (take i ss)) next)
-
--- the magnitude of a sum of positive weights is the sum of their magnitudes
-sum_positive : (ss : List Scenario) → AllByRecursion (λ (t : Scenario). pos 1 ≤ℤ t.weight) ss → sum_z (λ (t : Scenario). t.weight) ss ≡ pos (sum_by (λ (t : Scenario). unsigned_abs t.weight) ss)
-sum_positive [] h = refl
-sum_positive (s ∷ ss) h = omega (arith, ints, sum_z-cons (λ (t : Scenario). t.weight) s ss, sum_by-cons (λ (t : Scenario). unsigned_abs t.weight) s ss, positive_is s.weight h.0, sum_positive ss h.1)
-
--- the total weight is the sum of the sizes of all weights
-pub total_is : (run : Run) → run.total ≡ pos (size_below (scenarios run) (size_at run))
-total_is run =
-    let ss = run.program.scenarios in
-    let size : Scenario → ℕ = λ t. unsigned_abs t.weight in
-    let positive = recursion_from_All (λ (t : Scenario). pos 1 ≤ℤ t.weight) ss (λ k d h. (run.facts.scenarios k d h).positive) in
-    let places = sum_by_places size ss (length ss) (omega arith) in
-    let whole = ap (sum_by size) (take_all (length ss) ss (omega arith)) in
-    run.facts.sum_is ∙ sum_positive ss positive ∙ ap pos (sym (places ∙ whole))
-
-pub total_abs_is : (run : Run) → unsigned_abs run.total ≡ size_below (scenarios run) (size_at run)
-total_abs_is run = ap unsigned_abs (total_is run)
+pub weight_some : (run : Run) (s : ℕ) → s < scenarios run → 1 ≤ weight_size run s
+weight_some run s l = abs_some (weight_at run s) (run.facts.scenarios s no_scenario l).positive
 
 -- the weight of a node, and that it is at most the total
-pub weight_sum : (run : Run) (ns : List ℕ) → AllByRecursion (λ s. s < scenarios run) ns → weight_of run ns ≡ pos (sum_by (size_at run) ns)
+pub weight_sum : (run : Run) (ns : List ℕ) → AllByRecursion (λ s. s < scenarios run) ns → weight_of run ns ≡ pos (sum_by (weight_size run) ns)
 weight_sum run [] h = refl
-weight_sum run (n ∷ ns) h = omega (arith, ints, sum_z-cons (weight_at run) n ns, sum_by-cons (size_at run) n ns, weight_is run n h.0, weight_sum run ns h.1)
+weight_sum run (n ∷ ns) h = omega (arith, ints, sum_z-cons (weight_at run) n ns, sum_by-cons (weight_size run) n ns, weight_is run n h.0, weight_sum run ns h.1)
 
 -- the magnitude of a value in the box of its column
 pub value_abs : (run : Run) (x : List ℤ) (s j : ℕ) → AreInside run x → s < scenarios run → j < run.nonleaf → unsigned_abs (value_at run x s j) ≤ box_reach run.program j
 value_abs run x s j inside l h = abs_between (side_at (sides run.program) j).lower (side_at (sides run.program) j).upper (value_at run x s j) (inside.lower s j l h) (inside.upper s j l h)
 
 -- a weighted value
-pub part_abs : (run : Run) (x : List ℤ) (s j : ℕ) → AreInside run x → s < scenarios run → j < run.nonleaf → unsigned_abs (weight_at run s *ℤ value_at run x s j) ≤ size_at run s * box_reach run.program j
+pub part_abs : (run : Run) (x : List ℤ) (s j : ℕ) → AreInside run x → s < scenarios run → j < run.nonleaf → unsigned_abs (weight_at run s *ℤ value_at run x s j) ≤ weight_size run s * box_reach run.program j
 part_abs run x s j inside l h =
-    let same : size_at run s ≤ size_at run s = omega arith in
+    let same : weight_size run s ≤ weight_size run s = omega arith in
     omega (arith, unsigned_abs-mul (weight_at run s) (value_at run x s j), mul-le-mul same (value_abs run x s j inside l h))
 
 -- a node's weighted sum
-pub node_sum_abs : (run : Run) (x : List ℤ) (ns : List ℕ) (j : ℕ) → AreInside run x → All (λ s. s < scenarios run) ns → j < run.nonleaf → unsigned_abs (sum_of run x ns j) ≤ sum_by (size_at run) ns * box_reach run.program j
+pub node_sum_abs : (run : Run) (x : List ℤ) (ns : List ℕ) (j : ℕ) → AreInside run x → All (λ s. s < scenarios run) ns → j < run.nonleaf → unsigned_abs (sum_of run x ns j) ≤ sum_by (weight_size run) ns * box_reach run.program j
 node_sum_abs run x ns j inside below h =
     let m = box_reach run.program j in
-    let each = recursion_from_All (λ s. unsigned_abs (weight_at run s *ℤ value_at run x s j) ≤ size_at run s * m) ns (λ k d l. part_abs run x (get_or ns k d) j inside (below k d l) h) in
-    omega (arith, sum_abs (λ s. weight_at run s *ℤ value_at run x s j) (λ s. size_at run s * m) ns each, sum_by-times (size_at run) m ns)
+    let each = recursion_from_All (λ s. unsigned_abs (weight_at run s *ℤ value_at run x s j) ≤ weight_size run s * m) ns (λ k d l. part_abs run x (get_or ns k d) j inside (below k d l) h) in
+    omega (arith, sum_abs (λ s. weight_at run s *ℤ value_at run x s j) (λ s. weight_size run s * m) ns each, sum_by-times (weight_size run) m ns)

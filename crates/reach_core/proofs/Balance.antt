@@ -15,8 +15,9 @@ use Rattle.sp_model.specs.declared.program.Change.{Change}
 use Rattle.sp_model.specs.declared.program.Change.TheVariants.{Cost, Cell, Limits}
 use Rattle.sp_model.specs.declared.program.Program.{Program}
 use Rattle.sp_model.proofs.EntryOrder.{IsChain, after_is, put_behind, put_chain, put_front, put_over}
+use Rattle.sp_model.proofs.PlaceValues.{before_other, find_behind, find_head, put_other}
 use Rattle.sp_model.proofs.Putting.{chain_tail}
-use Rattle.reach_core.proofs.Finding.{before_other, find_behind, find_head, none_behind, value_of}
+use Rattle.reach_core.proofs.Finding.{found_passes, none_behind, value_of}
 
 -- the size of what was found
 abbrev found : (Entry → ℕ) → Option Entry → ℕ
@@ -41,31 +42,6 @@ put_balance w e (f ∷ fs) c = by_before (is_before f e) refl (is_at f e) refl (
         let put : sum_by w (put_entry e (f ∷ fs)) ≡ w e + sum_by w (f ∷ fs) = ap (sum_by w) (put_front e f fs b a) ∙ sum_by-cons w e (f ∷ fs) in
         let old : found w (find (is_cell e.row e.column) (f ∷ fs)) ≡ 0 = ap (found w) (none_behind e f fs c (after_is f e b a)) in
         omega (arith, put, old)
-
--- and leaves what is found at other places
-at_cell : (i j : ℕ) (e f : Entry) → is_at f e ≡ true → is_cell i j e ≡ false → is_cell i j f ≡ false
-at_cell i j e f at h =
-    let column : f.column ≡ e.column = let t = both_left (f.column == e.column) (f.row == e.row) at in grind arith in
-    let row : f.row ≡ e.row = let t = both_right (f.column == e.column) (f.row == e.row) at in grind arith in
-    ap (λ n. (n == j) && (f.row == i)) column ∙ (ap (λ n. (e.column == j) && (n == i)) row ∙ h)
-
-put_other : (i j : ℕ) (e : Entry) (fs : List Entry) → is_cell i j e ≡ false → find (is_cell i j) (put_entry e fs) ≡ find (is_cell i j) fs
-put_other i j e [] h = find_behind (is_cell i j) e [] h
-put_other i j e (f ∷ fs) h = by_before (is_before f e) refl (is_at f e) refl (put_other i j e fs h)
-  where
-    by_before : (t : Bool) → is_before f e ≡ t → (u : Bool) → is_at f e ≡ u → find (is_cell i j) (put_entry e fs) ≡ find (is_cell i j) fs → find (is_cell i j) (put_entry e (f ∷ fs)) ≡ find (is_cell i j) (f ∷ fs)
-    by_before true b u a r = ap (find (is_cell i j)) (put_behind e f fs b) ∙ ap (λ o. if is_cell i j f then Some f else o) r
-    by_before false b true a r = ap (find (is_cell i j)) (put_over e f fs b a) ∙ (find_behind (is_cell i j) e fs h ∙ sym (find_behind (is_cell i j) f fs (at_cell i j e f a h)))
-    by_before false b false a r = ap (find (is_cell i j)) (put_front e f fs b a) ∙ find_behind (is_cell i j) e (f ∷ fs) h
-
--- what is found passes
-found_passes : (q : Entry → Bool) (es : List Entry) (e : Entry) → find q es ≡ Some e → q e ≡ true
-found_passes q [] e h = absurd (let z = h in cc)
-found_passes q (x ∷ es) e h = by_test (q x) refl h (λ g. found_passes q es e g)
-  where
-    by_test : (t : Bool) → q x ≡ t → (if t then Some x else find q es) ≡ Some e → (find q es ≡ Some e → q e ≡ true) → q e ≡ true
-    by_test true c g r = let same : x ≡ e = ap (λ o. unwrap_or o x) g in subst (λ y. q y ≡ true) same c
-    by_test false c g r = r g
 
 -- what a change adds to row i, and what stands at its place there
 abbrev pub given : Program → ℕ → Change → ℕ

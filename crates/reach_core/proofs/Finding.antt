@@ -1,44 +1,21 @@
 -- The entry of a row and a column among entries in order.
-use Rattle.std.proofs.Common.{arith, refl, ap, ◌∙◌, ◌≡◌, ℕ, zero, suc, ◌<◌, ◌≤◌, ◌==◌, nat_lt, Bool, true, false, ◌&&◌, List, [], ◌∷◌, length, get_or, if◌then◌else◌, ℤ, pos}
+use Rattle.std.proofs.Common.{arith, refl, ap, subst, ◌∙◌, ◌≡◌, ℕ, zero, suc, ◌<◌, ◌≤◌, ◌==◌, nat_lt, Bool, true, false, ◌&&◌, List, [], ◌∷◌, length, get_or, if◌then◌else◌, ℤ, pos}
 use Rattle.std.specs.Prelude.{find, option_map, unwrap_or, Option, Some, None}
 use Rattle.boxed_problem.specs.BoxedFacts.{ComesBefore, no_entry}
 use Rattle.boxed_problem.specs.declared.parts.Entry.{Entry}
 use Rattle.sp_model.specs.Changes.{is_at, is_before}
 use Rattle.sp_model.specs.Values.{is_cell}
 use Rattle.sp_model.proofs.EntryOrder.{IsChain, after_is, before_is}
-use Rattle.sp_model.proofs.Putting.{chain_tail}
+use Rattle.sp_model.proofs.PlaceValues.{before_other, find_behind, find_head}
+use Rattle.sp_model.proofs.Putting.{chain_tail, chained, comes_before}
 
--- the first one that passes, behind one that passes or not
-pub find_head : (p : Entry → Bool) (f : Entry) (fs : List Entry) → p f ≡ true → find p (f ∷ fs) ≡ Some f
-find_head p f fs h = ap (λ t. if t then Some f else find p fs) h
-
-pub find_behind : (p : Entry → Bool) (f : Entry) (fs : List Entry) → p f ≡ false → find p (f ∷ fs) ≡ find p fs
-find_behind p f fs h = ap (λ t. if t then Some f else find p fs) h
-
--- an entry before a place isn't of the place, nor is one behind it
-pub before_other : (e f : Entry) → is_before f e ≡ true → is_cell e.row e.column f ≡ false
-before_other e f h = by_column (f.column == e.column) refl h
-  where
-    by_column : (t : Bool) → (f.column == e.column) ≡ t → (if t then nat_lt f.row e.row else nat_lt f.column e.column) ≡ true → (t && (f.row == e.row)) ≡ false
-    by_column true c g = grind arith
-    by_column false c g = refl
-
+-- an entry behind a place isn't of the place
 behind_other : (e f : Entry) → ComesBefore e f → is_cell e.row e.column f ≡ false
 behind_other e f h = by_column (f.column == e.column) refl
   where
     by_column : (t : Bool) → (f.column == e.column) ≡ t → (t && (f.row == e.row)) ≡ false
     by_column true c = let same : e.column ≡ f.column = grind arith in let less = h.1 same in grind arith
     by_column false c = refl
-
-chained : (e f g : Entry) → ComesBefore e f → ComesBefore f g → ComesBefore e g
-chained e f g p q = let p0 = p.0 in let q0 = q.0 in (omega (arith, p0, q0), λ same. let first = p.1 (omega (arith, p0, q0, same)) in let second = q.1 (omega (arith, p0, q0, same)) in omega (arith, first, second))
-
-comes_before : (f e : Entry) → ComesBefore f e → is_before f e ≡ true
-comes_before f e h = by_column (f.column == e.column) refl
-  where
-    by_column : (t : Bool) → (f.column == e.column) ≡ t → (if t then nat_lt f.row e.row else nat_lt f.column e.column) ≡ true
-    by_column true c = let same : f.column ≡ e.column = grind arith in let less = h.1 same in grind arith
-    by_column false c = let le = h.0 in grind arith
 
 -- what comes before one that is before a place is before it
 before_step : (f g e : Entry) → ComesBefore f g → is_before g e ≡ true → is_before f e ≡ true
@@ -78,3 +55,12 @@ one_at e (f ∷ fs) zero c lt h stop = by_place (is_at f e) refl
     by_place false a = ap value_of (none_behind e f fs c (after_is f e stop a))
 one_at e (f ∷ fs) (suc k) c lt h stop =
     ap value_of (find_behind (is_cell e.row e.column) f fs (before_other e f (h 0 f (omega arith)))) ∙ one_at e fs k (chain_tail f fs c) (omega (arith, lt)) (λ i d l. h (suc i) d (omega (arith, l))) stop
+
+-- what is found passes
+pub found_passes : (q : Entry → Bool) (es : List Entry) (e : Entry) → find q es ≡ Some e → q e ≡ true
+found_passes q [] e h = absurd (let z = h in cc)
+found_passes q (x ∷ es) e h = by_test (q x) refl h (λ g. found_passes q es e g)
+  where
+    by_test : (t : Bool) → q x ≡ t → (if t then Some x else find q es) ≡ Some e → (find q es ≡ Some e → q e ≡ true) → q e ≡ true
+    by_test true c g r = let same : x ≡ e = ap (λ o. unwrap_or o x) g in subst (λ y. q y ≡ true) same c
+    by_test false c g r = r g

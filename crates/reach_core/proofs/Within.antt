@@ -5,7 +5,7 @@ use Rattle.std.specs.List.{All, range_with_len, sum_by}
 use Rattle.std.proofs.lemmas.Int.{ints}
 use Rattle.std.proofs.lemmas.List.{get_or-map, get_or_default, length-map}
 use Rattle.std.proofs.lemmas.List.FromFn.{get_or-range_with_len, length-range_with_len}
-use Rattle.std.proofs.lemmas.List.Sums.{sum_by-cons}
+use Rattle.std.proofs.lemmas.List.Sums.{get_or-le-sum_by, sum_by-cons}
 use Rattle.std.proofs.Math.Nat.{mul-le-mul}
 use Rattle.base_words.specs.Sums.{number_at, size_below}
 use Rattle.base_words.proofs.SumBounds.{size_below-part}
@@ -24,15 +24,13 @@ use Rattle.sp_model.specs.declared.program.Options.{Options}
 use Rattle.sp_model.specs.declared.program.Program.{Program}
 use Rattle.sp_model.specs.declared.program.Row.{Row}
 use Rattle.sp_model.specs.declared.program.Scenario.{Scenario}
+use Rattle.sp_model.proofs.Bounds.{abs_some}
 use Rattle.sp_model.proofs.Lengths.{limits_kept}
 use Rattle.sp_model.proofs.PlaceValues.{given}
-use Rattle.sp_model.proofs.Sizes.{greatest_le}
+use Rattle.sp_model.proofs.ProgramReach.{core_cost_le, core_rows_le, parts_within, row_le, scenario_cost_le, scenario_rows_le}
 use Rattle.base_words.proofs.Comparisons.{both_left, both_right}
+use Rattle.reach_core.proofs.Finding.{found_passes}
 use Rattle.reach_core.specs.Within.{HasReach, NumbersWithin, change_size}
-
-some_abs : (a : ℤ) → pos 1 ≤ℤ a → 1 ≤ unsigned_abs a
-some_abs (pos a) h = omega (arith, ints)
-some_abs (negsuc a) h = absurd (omega (arith, ints))
 
 -- a number times factors of at least 1
 times_some : (n a : ℕ) → 1 ≤ a → n ≤ a * n
@@ -46,22 +44,14 @@ with_factor z m h = by_test (nat_le 1 m) refl
     by_test true e = let some : 1 ≤ m = grind arith in let same : unsigned_abs z ≤ unsigned_abs z = omega arith in omega (arith, mul-le-mul same some)
     by_test false e = let none : m ≡ 0 = grind arith in omega (arith, ap unsigned_abs (h none))
 
-parts_le : (a b c d : ℕ) → (a ≤ a + b + c + d) × (c ≤ a + b + c + d) × (d ≤ a + b + c + d)
-parts_le a b c d = (omega arith, omega arith, omega arith)
-
--- the parts of the reach
-reach_parts : (p : Program) (o : Options) (total : ℤ) (nonleaf : ℕ) → (2 * line_reach p o total ≤ run_reach p o total nonleaf) × (raw_reach p o total nonleaf ≤ run_reach p o total nonleaf) × (rows_reach p ≤ run_reach p o total nonleaf)
-unfolding run_reach
-reach_parts p o total nonleaf = parts_le (2 * line_reach p o total) (2 * length p.scenarios * hedge_reach p o total nonleaf) (raw_reach p o total nonleaf) (rows_reach p)
-
 -- the sum that the line has as a factor
 in_line : (p : Program) (o : Options) (total : ℤ) (nonleaf : ℕ) → HasReach p o total → unsigned_abs p.constant + size_below (length p.columns) (λ j. cost_reach p j * box_reach p j) ≤ run_reach p o total nonleaf
 in_line p o total nonleaf facts =
     let sum = unsigned_abs p.constant + size_below (length p.columns) (λ j. cost_reach p j * box_reach p j) in
-    let scale = some_abs o.scale facts.scale in
-    let weight = some_abs total facts.total_some in
+    let scale = abs_some o.scale facts.scale in
+    let weight = abs_some total facts.total_some in
     let factor : 1 ≤ unsigned_abs o.scale * unsigned_abs total = mul-le-mul scale weight in
-    let part = (reach_parts p o total nonleaf).0 in
+    let part = (parts_within p o total nonleaf).0 in
     omega (arith, times_some sum (unsigned_abs o.scale * unsigned_abs total) factor, part)
 
 -- a cost that is at most the greatest one of its column
@@ -71,63 +61,27 @@ cost_within p o total nonleaf j z facts lt le idle =
     let product = mul-le-mul le same in
     omega (arith, with_factor z (box_reach p j) idle, product, size_below-part (length p.columns) (λ k. cost_reach p k * box_reach p k) j lt, in_line p o total nonleaf facts)
 
--- the data of the core and of each scenario are among all data
-core_cost_le : (p : Program) (j : ℕ) → unsigned_abs (number_at (core_data p).costs j) ≤ cost_reach p j
-core_cost_le p j = greatest_le (λ (d : Data). unsigned_abs (number_at d.costs j)) (all_data p) 0 (core_data p) (omega arith)
-
-scenario_data : (p : Program) (s : ℕ) (d : Data) → s < length p.scenarios → get_or (all_data p) (suc s) d ≡ data_of p (get_or p.scenarios s no_scenario)
-scenario_data p s d lt = get_or-map (data_of p) p.scenarios s no_scenario d lt
-
-all_long : (p : Program) → length (all_data p) ≡ suc (length p.scenarios)
-all_long p = ap suc (length-map p.scenarios (data_of p))
-
-scenario_cost_le : (p : Program) (s j : ℕ) → s < length p.scenarios → unsigned_abs (number_at (data_of p (get_or p.scenarios s no_scenario)).costs j) ≤ cost_reach p j
-scenario_cost_le p s j lt =
-    let P : Data → Type 0 = λ d. unsigned_abs (number_at d.costs j) ≤ cost_reach p j in
-    subst P (scenario_data p s (core_data p) lt) (greatest_le (λ (d : Data). unsigned_abs (number_at d.costs j)) (all_data p) (suc s) (core_data p) (omega (arith, all_long p, lt)))
-
-core_rows_le : (p : Program) → data_reach p (core_data p) ≤ rows_reach p
-core_rows_le p = greatest_le (data_reach p) (all_data p) 0 (core_data p) (omega arith)
-
-scenario_rows_le : (p : Program) (s : ℕ) → s < length p.scenarios → data_reach p (data_of p (get_or p.scenarios s no_scenario)) ≤ rows_reach p
-scenario_rows_le p s lt =
-    let P : Data → Type 0 = λ d. data_reach p d ≤ rows_reach p in
-    subst P (scenario_data p s (core_data p) lt) (greatest_le (data_reach p) (all_data p) (suc s) (core_data p) (omega (arith, all_long p, lt)))
-
 data_long : (p : Program) (s : Scenario) → length (data_of p s).limits ≡ length p.rows
 unfolding data_of
 data_long p s = limits_kept (core_data p) s.changes ∙ length-map p.rows limits_of
 
 -- a row of some data
-pub row_le : (p : Program) (d : Data) (i : ℕ) → i < length d.limits → row_size (sides p) d.limits d.entries i ≤ data_reach p d
-row_le p d i lt =
-    let P : ℕ → Type 0 = λ k. row_size (sides p) d.limits d.entries k ≤ data_reach p d in
-    let at : get_or (range_with_len 0 (length d.limits)) i 0 ≡ i = get_or-range_with_len 0 (length d.limits) i 0 lt ∙ omega arith in
-    subst P at (greatest_le (row_size (sides p) d.limits d.entries) (range_with_len 0 (length d.limits)) i 0 (omega (arith, length-range_with_len 0 (length d.limits), lt)))
-
 limits_le : (p : Program) (d : Data) (i : ℕ) → i < length d.limits → limits_size (limits_at d.limits i) ≤ data_reach p d
 limits_le p d i lt = omega (arith, row_le p d i lt)
 
 pub sum_le : (p : Program) (d : Data) (i : ℕ) → i < length d.limits → sum_by (entry_size (sides p) i) d.entries ≤ data_reach p d
 sum_le p d i lt = omega (arith, row_le p d i lt)
 
--- an item of a sum
-item_le : (f : Entry → ℕ) (es : List Entry) (k : ℕ) (e : Entry) → k < length es → f (get_or es k e) ≤ sum_by f es
-item_le f [] k e lt = absurd (omega (arith, lt))
-item_le f (x ∷ es) zero e lt = omega (arith, sum_by-cons f x es)
-item_le f (x ∷ es) (suc k) e lt = omega (arith, sum_by-cons f x es, item_le f es k e (omega (arith, lt)))
-
--- what is found passes, and is an item of the sum
-found_le : (q : Entry → Bool) (f : Entry → ℕ) (es : List Entry) (e : Entry) → find q es ≡ Some e → (q e ≡ true) × (f e ≤ sum_by f es)
+-- what is found is an item of the sum
+found_le : (q : Entry → Bool) (f : Entry → ℕ) (es : List Entry) (e : Entry) → find q es ≡ Some e → f e ≤ sum_by f es
 found_le q f [] e h = absurd (let z = h in cc)
 found_le q f (x ∷ es) e h = by_test (q x) refl h (λ g. found_le q f es e g)
   where
-    by_test : (t : Bool) → q x ≡ t → (if t then Some x else find q es) ≡ Some e → (find q es ≡ Some e → (q e ≡ true) × (f e ≤ sum_by f es)) → (q e ≡ true) × (f e ≤ sum_by f (x ∷ es))
+    by_test : (t : Bool) → q x ≡ t → (if t then Some x else find q es) ≡ Some e → (find q es ≡ Some e → f e ≤ sum_by f es) → f e ≤ sum_by f (x ∷ es)
     by_test true c g r =
         let same : x ≡ e = ap (λ o. unwrap_or o x) g in
-        let P : Entry → Type 0 = λ y. (q y ≡ true) × (f y ≤ sum_by f (x ∷ es)) in
-        subst P same (c, omega (arith, sum_by-cons f x es))
-    by_test false c g r = let rest = r g in (rest.0, omega (arith, rest.1, sum_by-cons f x es))
+        subst (λ y. f y ≤ sum_by f (x ∷ es)) same (omega (arith, sum_by-cons f x es))
+    by_test false c g r = omega (arith, r g, sum_by-cons f x es)
 
 -- an entry of a row
 entry_is : (p : Program) (i : ℕ) (e : Entry) → (e.row == i) ≡ true → entry_size (sides p) i e ≡ unsigned_abs e.value * box_reach p e.column
@@ -140,14 +94,14 @@ cell_le p d i j z lt at idle = by_found (find (is_cell i j) d.entries) refl at
     by_found : (o : Option Entry) → find (is_cell i j) d.entries ≡ o → unwrap_or (option_map (λ (e : Entry). e.value) o) (pos 0) ≡ z → unsigned_abs z ≤ data_reach p d
     by_found None f g = omega (arith, ap unsigned_abs g)
     by_found (Some e) f g =
-        let found = found_le (is_cell i j) (entry_size (sides p) i) d.entries e f in
-        let column : e.column ≡ j = let t = both_left (e.column == j) (e.row == i) found.0 in grind arith in
-        let row = both_right (e.column == j) (e.row == i) found.0 in
+        let passes = found_passes (is_cell i j) d.entries e f in
+        let column : e.column ≡ j = let t = both_left (e.column == j) (e.row == i) passes in grind arith in
+        let row = both_right (e.column == j) (e.row == i) passes in
         let size : entry_size (sides p) i e ≡ unsigned_abs z * box_reach p j = entry_is p i e row ∙ (ap (λ v. unsigned_abs v * box_reach p e.column) g ∙ ap (λ c. unsigned_abs z * box_reach p c) column) in
-        omega (arith, with_factor z (box_reach p j) idle, size, found.1, sum_le p d i lt)
+        omega (arith, with_factor z (box_reach p j) idle, size, found_le (is_cell i j) (entry_size (sides p) i) d.entries e f, sum_le p d i lt)
 
 rows_within : (p : Program) (o : Options) (total : ℤ) (nonleaf : ℕ) → rows_reach p ≤ run_reach p o total nonleaf
-rows_within p o total nonleaf = (reach_parts p o total nonleaf).2
+rows_within p o total nonleaf = (parts_within p o total nonleaf).3
 
 columns_fit : (p : Program) (o : Options) (total : ℤ) (nonleaf : ℕ) → HasReach p o total → All (λ (c : Column). unsigned_abs c.cost ≤ run_reach p o total nonleaf) p.columns
 columns_fit p o total nonleaf facts k c lt =
@@ -167,7 +121,7 @@ entries_fit : (p : Program) (o : Options) (total : ℤ) (nonleaf : ℕ) → HasR
 entries_fit p o total nonleaf facts k e lt =
     let x = get_or p.entries k e in
     let self : (x.row == x.row) ≡ true = grind arith in
-    omega (arith, with_factor x.value (box_reach p x.column) (facts.idle.entries k e lt), entry_is p x.row x self, item_le (entry_size (sides p) x.row) p.entries k e lt, sum_le p (core_data p) x.row (omega (arith, core_limits_long p, (facts.there k e lt).0)), core_rows_le p, rows_within p o total nonleaf)
+    omega (arith, with_factor x.value (box_reach p x.column) (facts.idle.entries k e lt), entry_is p x.row x self, get_or-le-sum_by (entry_size (sides p) x.row) p.entries k e lt, sum_le p (core_data p) x.row (omega (arith, core_limits_long p, (facts.there k e lt).0)), core_rows_le p, rows_within p o total nonleaf)
 
 -- the numbers of a change
 change_within : (p : Program) (o : Options) (total : ℤ) (nonleaf s : ℕ) (c : Change) → HasReach p o total → s < length p.scenarios → is_change (length p.rows) (length p.columns) c ≡ true → (change_reach p c ≡ 0 → change_value c ≡ pos 0) → Has (data_of p (get_or p.scenarios s no_scenario)) c → change_size c ≤ run_reach p o total nonleaf
@@ -207,10 +161,10 @@ pub total_within : (p : Program) (o : Options) (total : ℤ) (nonleaf : ℕ) →
 total_within p o total nonleaf facts =
     let w = unsigned_abs total in
     let most = max 1 (greatest (map (box_reach p) (range_with_len 0 nonleaf))) in
-    let rho = some_abs o.rho facts.rho in
+    let rho = abs_some o.rho facts.rho in
     let two : 1 ≤ 2 * unsigned_abs o.rho = omega (arith, rho) in
     let first = times_some (w * w) (2 * unsigned_abs o.rho) two in
     let one : 1 ≤ most = omega arith in
     let same : 2 * unsigned_abs o.rho * (w * w) ≤ 2 * unsigned_abs o.rho * (w * w) = omega arith in
     let second = mul-le-mul same one in
-    omega (arith, squares w, first, second, (reach_parts p o total nonleaf).1)
+    omega (arith, squares w, first, second, (parts_within p o total nonleaf).2)

@@ -15,7 +15,8 @@ use Rattle.sp_model.specs.Reaching.{box_reach, greatest, hedge_part, hedge_reach
 use Rattle.sp_model.specs.declared.program.Column.{Column}
 use Rattle.sp_model.specs.declared.program.Program.{Program}
 use Rattle.sp_model.specs.declared.run.Run.{Run}
-use Rattle.sp_model.proofs.Bounds.{total_abs}
+use Rattle.sp_model.proofs.Bounds.{reach_parts, total_abs}
+use Rattle.base_words.proofs.NumberTests.{none_from_test, some_from_test}
 
 -- a nonleaf column is a column
 pub early_column : (run : Run) (j : ℕ) → j < run.nonleaf → j < length run.program.columns
@@ -65,23 +66,6 @@ scenarios_few run = run.facts.counts.scenarios
 pub step_small : (run : Run) (j : ℕ) → j < length run.program.columns → step_reach run.program run.options run.total j < 2 ^ 122
 step_small run j l = omega (arith, part_small run j l, scenarios_few run)
 
-parts_le : (a b c d n : ℕ) → a + b + c + d ≤ n → b ≤ n
-parts_le a b c d n h = omega arith
-
-pub hedge_within : (run : Run) → 2 * length run.program.scenarios * hedge_reach run.program run.options run.total run.nonleaf ≤ 2 ^ 120
-unfolding run_reach
-hedge_within run = parts_le (2 * line_reach run.program run.options run.total) (2 * length run.program.scenarios * hedge_reach run.program run.options run.total run.nonleaf) (raw_reach run.program run.options run.total run.nonleaf) (rows_reach run.program) (2 ^ 120) run.facts.within
-
-pub some_from_test : (m : ℕ) → nat_le 1 m ≡ true → 1 ≤ m
-some_from_test m e = grind arith
-
-pub none_from_test : (m : ℕ) → nat_le 1 m ≡ false → m ≡ 0
-none_from_test zero e = refl
-none_from_test (suc m) e = absurd (let more : 1 ≤ suc m = omega arith in let same = some_test (suc m) more in cc)
-  where
-    some_test : (m : ℕ) → 1 ≤ m → nat_le 1 m ≡ true
-    some_test m l = grind arith
-
 -- as many multipliers as there are scenarios, of the greatest magnitude
 pub most_room : (run : Run) (j : ℕ) → j < run.nonleaf → scenarios run * most_at run j ≤ 2 ^ 120
 most_room run j h = by_box (nat_le 1 (box_reach run.program j)) refl
@@ -98,7 +82,7 @@ most_room run j h = by_box (nat_le 1 (box_reach run.program j)) refl
         let part = size_below-part run.nonleaf (hedge_part run.program run.options run.total) j h in
         let below : most ≤ hedge = omega (arith, wide, part) in
         let many : n ≤ 2 * n = omega arith in
-        omega (arith, mul-le-mul many below, hedge_within run)
+        omega (arith, mul-le-mul many below, (reach_parts run).1)
     by_box false e =
         let m = box_reach run.program j in
         let none = none_from_test m e in

@@ -14,10 +14,8 @@ use Rattle.sp_model.specs.Plans.{AreBalanced, multiplier_of, stage_of}
 use Rattle.sp_model.specs.Problems.{scenarios}
 use Rattle.sp_model.specs.declared.plan.Multipliers.{Multipliers}
 use Rattle.sp_model.specs.declared.run.Run.{Run}
+use Rattle.base_words.proofs.NumberTests.{not_less_from_test}
 use Rattle.run_calls.proofs.NumberedAnswers.{number_each}
-
-above_from_test : (a b : ℕ) → nat_lt a b ≡ false → b ≤ a
-above_from_test a b e = grind arith
 
 pub none_too_big : (run : Run) (multipliers : Multipliers) → too_big run multipliers ≡ None → AreSized run multipliers
 none_too_big run multipliers e s j l h = by_test (nat_lt (most_at run j) (unsigned_abs (multiplier_of run multipliers s j))) refl own
@@ -30,7 +28,7 @@ none_too_big run multipliers e s j l h = by_test (nat_lt (most_at run j) (unsign
 
     by_test : (b : Bool) → nat_lt (most_at run j) (unsigned_abs (multiplier_of run multipliers s j)) ≡ b → (if b then Some (size_fault run multipliers s j) else None) ≡ None → unsigned_abs (multiplier_of run multipliers s j) ≤ most_at run j
     by_test true p d = absurd (let x = d in cc)
-    by_test false p d = above_from_test (most_at run j) (unsigned_abs (multiplier_of run multipliers s j)) p
+    by_test false p d = not_less_from_test (most_at run j) (unsigned_abs (multiplier_of run multipliers s j)) p
 
 pub none_unbalanced : (run : Run) (multipliers : Multipliers) → unbalanced run multipliers ≡ None → AreBalanced run multipliers
 none_unbalanced run multipliers e i d l j h of_stage =

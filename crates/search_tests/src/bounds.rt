@@ -1,4 +1,4 @@
-use crate::problems::{lie_within, prices, problem, sides_of};
+use crate::problems::{check_fit, prices, problem, sides_of, small};
 use boxed_problem::{Boxed, Prices, Side, scan};
 use safe_bound::{bound, bound_from, column_least, least_value, price_total, reduce_by};
 use std::alloc::{AllocError, Global};
@@ -14,30 +14,16 @@ fn check(
     prices: &Prices,
     wanted: i128,
 ) -> Result<(), AllocError> {
-    assert!(rt; problem.fits(prices));
-    assert!(rt; lie_within(sides.as_slice(), problem.columns.as_slice()));
+    check_fit(rt, problem, sides, prices);
     assert_eq!(rt; bound(problem, sides, prices), wanted);
     let reduced = reduce_by(problem, prices)?;
     assert_eq!(rt; bound_from(&reduced, sides), wanted);
     Ok(())
 }
 
-/// A scenario problem of the worked example SMALL.
-fn small(rt: &impl Abort, alloc: Global) -> Result<Boxed, AllocError> {
-    let found = problem(
-        alloc,
-        &[(0, 10), (0, 10)],
-        &[(Some(6), None)],
-        &[(0, 0, 1), (0, 1, 1)],
-        0,
-        &[(10, 0), (30, 0)],
-    )?;
-    Ok(found.expect(rt, "a problem"))
-}
-
 #[test]
 fn bounds_small(rt: HostRuntime) -> Result<(), Fail> {
-    let problem = small(&rt, rt.alloc())?;
+    let problem = small(&rt, rt.alloc(), 6)?;
     let part = sides_of(rt.alloc(), &[(3, 5), (0, 10)])?;
     let cases = [
         (1, 10, 60, 60),
@@ -151,12 +137,11 @@ fn bounds_at_the_limit(rt: HostRuntime) -> Result<(), Fail> {
 
 #[test]
 fn finds_leasts(rt: HostRuntime) -> Result<(), Fail> {
-    let problem = small(&rt, rt.alloc())?;
+    let problem = small(&rt, rt.alloc(), 6)?;
     let part = sides_of(rt.alloc(), &[(3, 5), (2, 10)])?;
-    assert!(rt; lie_within(part.as_slice(), problem.columns.as_slice()));
-    assert_eq!(rt; least_value(&problem, &part), 90);
     let prices = prices(rt.alloc(), 1, &[10])?;
-    assert!(rt; problem.fits(&prices));
+    check_fit(&rt, &problem, &part, &prices);
+    assert_eq!(rt; least_value(&problem, &part), 90);
     assert_eq!(rt; price_total(&problem, &part, &prices), 100);
     for (lower, upper, wanted) in [(-3, 9, -2), (2, 9, 0), (-3, -1, 6), (0, 1, -2)] {
         assert_eq!(rt; column_least(-4, 2, Side { lower, upper }), wanted);

@@ -1,6 +1,6 @@
-//! Tests of the search's parts: points of a box, trails, bounds from prices and
-//! prices that rise, beside values worked out by hand, and the least values that
-//! `scan` finds.
+//! Tests of the search and its parts: points of a box, trails, bounds from prices,
+//! prices that rise and the search itself, beside values worked out by hand, and the
+//! least values that `scan` finds.
 #![tactic(auto)]
 
 #[cfg(test)]
@@ -11,5 +11,7 @@ mod points;
 mod problems;
 #[cfg(test)]
 mod rises;
+#[cfg(test)]
+mod solving;
 #[cfg(test)]
 mod trails;

@@ -1,4 +1,4 @@
-use crate::problems::{prices, problem};
+use crate::problems::{prices, problem, small, tied};
 use boxed_problem::{Boxed, scan};
 use std::alloc::{AllocError, Global};
 use std::process::Abort;
@@ -8,19 +8,6 @@ use wide_num::List;
 /// A point.
 fn point_of(alloc: Global, values: &[i64]) -> Result<List<i64>, AllocError> {
     Ok(List::from_vec(Vec::from_slice(alloc, values)?))
-}
-
-/// A scenario problem of the worked example SMALL, with this need.
-fn small(rt: &impl Abort, alloc: Global, need: i128) -> Result<Boxed, AllocError> {
-    let found = problem(
-        alloc,
-        &[(0, 10), (0, 10)],
-        &[(Some(need), None)],
-        &[(0, 0, 1), (0, 1, 1)],
-        0,
-        &[(10, 0), (30, 0)],
-    )?;
-    Ok(found.expect(rt, "a problem"))
 }
 
 #[test]
@@ -47,17 +34,7 @@ fn scans_small(rt: HostRuntime) -> Result<(), Fail> {
 
 #[test]
 fn takes_the_first_of_equals(rt: HostRuntime) -> Result<(), Fail> {
-    let rows = [(Some(1), None)];
-    let entries = [(0, 0, 1), (0, 1, 1)];
-    let found = problem(
-        rt.alloc(),
-        &[(0, 1), (0, 1)],
-        &rows,
-        &entries,
-        0,
-        &[(1, 0), (1, 0)],
-    )?;
-    let tied = found.expect(&rt, "a problem");
+    let tied = tied(&rt, rt.alloc())?;
     assert!(rt; tied.has_few_points());
     let best = scan(rt.alloc(), &tied)?.expect(&rt, "a point");
     assert_eq!(rt; best.value, 1);

@@ -1,8 +1,11 @@
 ghost use Rattle.std.specs.Prelude.{◌≡◌, ◌≤ℤ◌, true};
+ghost use Rattle.boxed_problem.specs.Data.{problem_of};
+ghost use Rattle.boxed_problem.specs.PriceFit.{FitsPrices};
 ghost use Rattle.boxed_problem.specs.Sides.{Within};
 
 use boxed_problem::{Boxed, Entry, Limits, Prices, Side};
 use std::alloc::{AllocError, Global};
+use std::process::Abort;
 use wide_num::List;
 
 /// A row's limits.
@@ -59,6 +62,32 @@ pub fn problem(
     Ok(Boxed::new(sides, limits, cells, constant, line, square))
 }
 
+/// A scenario problem of the worked example SMALL, with this need.
+pub fn small(rt: &impl Abort, alloc: Global, need: i128) -> Result<Boxed, AllocError> {
+    let found = problem(
+        alloc,
+        &[(0, 10), (0, 10)],
+        &[(Some(need), None)],
+        &[(0, 0, 1), (0, 1, 1)],
+        0,
+        &[(10, 0), (30, 0)],
+    )?;
+    Ok(found.expect(rt, "a problem"))
+}
+
+/// The problem of two columns that are 0 or 1, cost the same, and aren't both 0.
+pub fn tied(rt: &impl Abort, alloc: Global) -> Result<Boxed, AllocError> {
+    let found = problem(
+        alloc,
+        &[(0, 1), (0, 1)],
+        &[(Some(1), None)],
+        &[(0, 0, 1), (0, 1, 1)],
+        0,
+        &[(1, 0), (1, 0)],
+    )?;
+    Ok(found.expect(rt, "a problem"))
+}
+
 /// Whether a side isn't empty and lies in another.
 fn is_within(inner: Side, outer: Side) -> bool
     ensures { result ≡ true →
@@ -83,6 +112,15 @@ pub fn lie_within(inner: &[Side], outer: &[Side]) -> bool
         }
     }
     true
+}
+
+/// Checks that prices fit a problem and that sides lie in its box.
+pub fn check_fit(rt: &impl Abort, problem: &Boxed, sides: &List<Side>, prices: &Prices)
+    ensures sides { Within sides.now problem.now.columns }
+    ensures prices { FitsPrices (problem_of problem.now) prices.now }
+{
+    assert!(rt; problem.fits(prices));
+    assert!(rt; lie_within(sides.as_slice(), problem.columns.as_slice()));
 }
 
 /// Prices of the rows over one scale.

@@ -1,4 +1,4 @@
-use crate::problems::{lie_within, prices, problem, sides_of};
+use crate::problems::{check_fit, prices, problem, sides_of, small};
 use boxed_problem::{Boxed, Prices, Side};
 use row_prices::improve;
 use safe_bound::bound;
@@ -16,8 +16,7 @@ fn check(
     rounds: u32,
     wanted: i128,
 ) -> Result<(), AllocError> {
-    assert!(rt; problem.fits(prices));
-    assert!(rt; lie_within(sides.as_slice(), problem.columns.as_slice()));
+    check_fit(rt, problem, sides, prices);
     improve(problem, sides, prices, rounds)?;
     assert_eq!(rt; bound(problem, sides, prices), wanted);
     Ok(())
@@ -26,15 +25,7 @@ fn check(
 #[test]
 fn improves_small(rt: HostRuntime) -> Result<(), Fail> {
     let alloc = rt.alloc();
-    let made = problem(
-        alloc,
-        &[(0, 10), (0, 10)],
-        &[(Some(6), None)],
-        &[(0, 0, 1), (0, 1, 1)],
-        0,
-        &[(10, 0), (30, 0)],
-    )?;
-    let small = made.expect(&rt, "a problem");
+    let small = small(&rt, alloc, 6)?;
     let part = sides_of(alloc, &[(0, 4), (0, 10)])?;
     for (scale, price, rounds, whole, narrow) in [
         (1, 10, 1, 60, 100),

@@ -1,13 +1,13 @@
 -- The data of a scenario part by part: costs, limits, and the core's entries with those of the changes put over them.
 
-use Rattle.std.proofs.Common.{arith, refl, sym, ap, ◌∙◌, ◌≡◌, ℕ, ◌+◌, ◌<◌, nat_lt, true, List, [], ◌∷◌, ◌++◌, length, map, get_or, take, ℤ}
-use Rattle.std.proofs.lemmas.List.{append_assoc, append-nil, length-map, take_more}
+use Rattle.std.proofs.Common.{refl, sym, ap, ◌∙◌, ◌≡◌, ℕ, ◌+◌, ◌<◌, nat_lt, true, List, [], ◌∷◌, ◌++◌, length, get_or, take, ℤ}
+use Rattle.std.proofs.lemmas.List.{append_assoc, append-nil, take_more}
 use Rattle.std.proofs.Math.ListN.{length-set}
 use Rattle.std.specs.List.{fold}
 use Rattle.base_words.proofs.Comparisons.{both_left}
 use Rattle.boxed_problem.specs.declared.parts.Entry.{Entry}
 use Rattle.boxed_problem.specs.declared.parts.Limits.{Limits as BothLimits}
-use Rattle.sp_model.specs.Changes.{Data, cell_of, cells_of, core_data, limits_of, put_entries, with_change}
+use Rattle.sp_model.specs.Changes.{Data, cell_of, cells_of, put_entries, with_change}
 use Rattle.sp_model.specs.Drafts.{has_column, has_row, with_cost, with_limits}
 use Rattle.sp_model.specs.RunFacts.{are_limits, is_change}
 use Rattle.sp_model.specs.declared.program.Change.{Change}

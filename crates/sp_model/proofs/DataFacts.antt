@@ -1,7 +1,7 @@
 -- What the data of a scenario keep, change after change, and that its problem is one that fits its type.
 
-use Rattle.std.proofs.Common.{arith, refl, sym, ap, subst, ◌∙◌, ◌≡◌, ℕ, zero, suc, ◌*◌, ◌<◌, ◌≤◌, nat_lt, nat_le, Bool, true, false, List, [], ◌∷◌, length, set, take, drop, ℤ, pos, ◌*ℤ◌, ◌≤ℤ◌, unsigned_abs, FitsSigned, if◌then◌else◌}
-use Rattle.std.proofs.lemmas.Int.{ints, unsigned_abs-mul}
+use Rattle.std.proofs.Common.{arith, refl, sym, ap, subst, ◌∙◌, ◌≡◌, ℕ, zero, suc, ◌^◌, ◌<◌, ◌≤◌, nat_lt, nat_le, Bool, true, false, List, [], ◌∷◌, length, set, take, drop, ℤ, pos, ◌*ℤ◌, ◌≤ℤ◌, unsigned_abs, FitsSigned, if◌then◌else◌}
+use Rattle.std.proofs.lemmas.Int.{ints}
 use Rattle.std.proofs.lemmas.List.{get_or-map, get_or_default, length-map}
 use Rattle.std.proofs.lemmas.List.Elements.{All-append, All-cons, All-drop, All-map, All-set, All-take, recursion_from_All}
 use Rattle.std.proofs.Math.ListN.{get_or-eq_default, length-set}
@@ -20,14 +20,17 @@ use Rattle.sp_model.specs.Changes.{Data, core_data, data_of, limits_of, place_of
 use Rattle.sp_model.specs.RunFacts.{change_reach, change_value, is_change}
 use Rattle.sp_model.specs.Plans.{no_column}
 use Rattle.sp_model.specs.Problems.{data_at, factor_of, no_scenario, problem_in, scenario_at, scenarios}
-use Rattle.sp_model.specs.Reaching.{box_reach, cost_reach}
+use Rattle.sp_model.specs.Reaching.{box_reach}
 use Rattle.sp_model.specs.declared.program.Change.{Change}
 use Rattle.sp_model.specs.declared.program.Change.TheVariants.{Cost, Cell, Limits}
 use Rattle.sp_model.specs.declared.program.Column.{Column}
 use Rattle.sp_model.specs.declared.program.Program.{Program}
 use Rattle.sp_model.specs.declared.run.Run.{Run}
-use Rattle.sp_model.proofs.Bounds.{cost_le, factor_abs, line_is, reach_parts, rows_fit, value_fits}
+use Rattle.sp_model.proofs.Bounds.{rows_fit, span_small, value_fits}
+use Rattle.sp_model.proofs.CostSpans.{line_part, line_parts_le}
+use Rattle.sp_model.proofs.Sizes.{times_at}
 use Rattle.sp_model.proofs.EntryOrder.{chain_at, chain_from, IsChain, put_chain}
+use Rattle.base_words.proofs.NumberTests.{less_from_test, none_from_test, not_less_from_test, some_from_test}
 
 -- an entry of a row and a column that are there
 abbrev IsThere : Program → Entry → Type 0
@@ -41,18 +44,6 @@ pub record KeepsFacts (p : Program) (d : Data) : Type 0 where
   pub places : All (IsThere p) d.entries
   pub idle : (j : ℕ) → box_reach p j ≡ 0 → number_at d.costs j ≡ pos 0
 
-less_from_test : (a b : ℕ) → nat_lt a b ≡ true → a < b
-less_from_test a b e = grind arith
-
-most_from_test : (a b : ℕ) → nat_lt a b ≡ false → b ≤ a
-most_from_test a b e = grind arith
-
-some_from_test : (a : ℕ) → nat_le 1 a ≡ true → 1 ≤ a
-some_from_test a e = grind arith
-
-none_from_test : (a : ℕ) → nat_le 1 a ≡ false → a ≡ 0
-none_from_test a e = grind arith
-
 core_idle : (run : Run) (j : ℕ) → box_reach run.program j ≡ 0 → number_at (core_data run.program).costs j ≡ pos 0
 core_idle run j h = by_test (nat_lt j (length run.program.columns)) refl
   where
@@ -61,7 +52,7 @@ core_idle run j h = by_test (nat_lt j (length run.program.columns)) refl
         let l = less_from_test j (length run.program.columns) e in
         get_or-map (λ (column : Column). column.cost) run.program.columns j no_column (pos 0) l ∙ run.facts.idle.costs j no_column l h
     by_test false e =
-        let l = most_from_test j (length run.program.columns) e in
+        let l = not_less_from_test j (length run.program.columns) e in
         get_or-eq_default (core_data run.program).costs (pos 0) (omega (arith, length-map run.program.columns (λ (column : Column). column.cost)))
 
 pub core_keeps : (run : Run) → KeepsFacts run.program (core_data run.program)
@@ -123,29 +114,30 @@ data_keeps run s l =
     (recursion_from_All (λ c. is_change (length run.program.rows) (length run.program.columns) c ≡ true) cs (run.facts.scenarios s no_scenario l).changes)
     (recursion_from_All (λ c. change_reach run.program c ≡ 0 → change_value c ≡ pos 0) cs (run.facts.idle.changes s no_scenario l))
 
+-- the cost of a column in a scenario's problem
+pub line_small : (run : Run) (s j : ℕ) → s < scenarios run → j < length run.program.columns → unsigned_abs (number_at (problem_in run s).line j) ≤ 2 ^ 122
+line_small run s j l h = by_box (nat_le 1 (box_reach run.program j)) refl
+  where
+    by_box : (b : Bool) → nat_le 1 (box_reach run.program j) ≡ b → unsigned_abs (number_at (problem_in run s).line j) ≤ 2 ^ 122
+    by_box true e =
+        let some = some_from_test (box_reach run.program j) e in
+        let cost = unsigned_abs (number_at (problem_in run s).line j) in
+        let same : cost ≤ cost = omega arith in
+        let wide = mul-le-mul same some in
+        omega (arith, wide, size_below-part (length run.program.columns) (line_part run s) j h, line_parts_le run s l, span_small run s l)
+    by_box false e =
+        let none = none_from_test (box_reach run.program j) e in
+        let costs = (data_at run s).costs in
+        let free = (data_keeps run s l).idle j none in
+        let zero : number_at (problem_in run s).line j ≡ pos 0 = times_at (factor_of run s) costs j ∙ ap (λ z. factor_of run s *ℤ z) free ∙ *ℤ-zero (factor_of run s) in
+        let nothing : unsigned_abs (number_at (problem_in run s).line j) ≡ 0 = ap unsigned_abs zero in
+        omega arith
+
 -- the cost of a column times the factor fits
 cost_fits : (run : Run) (s j : ℕ) → s < scenarios run → j < length run.program.columns → FitsSigned w128 (factor_of run s *ℤ number_at (data_at run s).costs j)
-cost_fits run s j l h = by_test (nat_le 1 (box_reach run.program j)) refl
-  where
-    by_test : (t : Bool) → nat_le 1 (box_reach run.program j) ≡ t → FitsSigned w128 (factor_of run s *ℤ number_at (data_at run s).costs j)
-    by_test false e =
-        let none = none_from_test (box_reach run.program j) e in
-        let free = (data_keeps run s l).idle j none in
-        let product : factor_of run s *ℤ number_at (data_at run s).costs j ≡ pos 0 = ap (λ z. factor_of run s *ℤ z) free ∙ *ℤ-zero (factor_of run s) in
-        fits_from_abs (factor_of run s *ℤ number_at (data_at run s).costs j) (omega (arith, ap unsigned_abs product))
-    by_test true e =
-        let some = some_from_test (box_reach run.program j) e in
-        let qw = unsigned_abs run.options.scale * unsigned_abs run.total in
-        let cost = cost_reach run.program j in
-        let same : cost ≤ cost = omega arith in
-        let same2 : qw ≤ qw = omega arith in
-        let wide = mul-le-mul same some in
-        let narrow : cost ≤ cost * box_reach run.program j = omega (arith, wide) in
-        let product = mul-le-mul same2 narrow in
-        let own = mul-le-mul (factor_abs run s l) (cost_le run s j l) in
-        let part = size_below-part (length run.program.columns) (λ k. qw * (cost_reach run.program k * box_reach run.program k)) j h in
-        let line = (reach_parts run).0 in
-        fits_from_abs (factor_of run s *ℤ number_at (data_at run s).costs j) (omega (arith, unsigned_abs-mul (factor_of run s) (number_at (data_at run s).costs j), own, product, part, line_is run, line))
+cost_fits run s j l h =
+    let costs = (data_at run s).costs in
+    fits_from_abs (factor_of run s *ℤ number_at costs j) (omega (arith, ap unsigned_abs (times_at (factor_of run s) costs j), line_small run s j l h))
 
 pub costs_fit : (run : Run) (s : ℕ) → s < scenarios run → All (λ cost. FitsSigned w128 (factor_of run s *ℤ cost)) (data_at run s).costs
 costs_fit run s l k d h =

@@ -3,7 +3,7 @@
 use Rattle.std.proofs.Common.{arith, refl, sym, ap, ◌∙◌, ◌≡◌, ℕ, ◌+◌, ◌*◌, ◌<◌, ◌==◌, nat_lt, Bool, true, false, cond, List, [], ◌∷◌, length, get_or, ℤ, pos, ◌+ℤ◌, ◌*ℤ◌, ◌≤ℤ◌, Option, Some, None, if◌then◌else◌}
 use Rattle.std.proofs.lemmas.Int.{ints}
 use Rattle.std.proofs.lemmas.List.{get_or_default, length-map}
-use Rattle.std.proofs.lemmas.List.Elements.{All-append, All-map, All-nil, Contains-get_or, recursion_from_All}
+use Rattle.std.proofs.lemmas.List.Elements.{All-append, All-nil, Contains-get_or, recursion_from_All}
 use Rattle.std.proofs.lemmas.List.FromFn.{get_or-map-range_with_len}
 use Rattle.std.specs.List.{All, AllByRecursion, count_by, flat_map, range_with_len}
 use Rattle.std.specs.Option.{option_map}
@@ -17,7 +17,6 @@ use Rattle.boxed_problem.specs.Data.{Problem}
 use Rattle.boxed_problem.specs.Objective.{curve, value_of, value_part}
 use Rattle.boxed_problem.specs.Optimum.{Feasible, IsBest, best_of}
 use Rattle.boxed_problem.specs.Sides.{Filled}
-use Rattle.boxed_problem.specs.declared.parts.Side.{Side}
 use Rattle.boxed_problem.specs.declared.parts.Best.{Best}
 use Rattle.boxed_problem.proofs.Optimal.{best_is}
 use Rattle.tree_core.specs.Nodes.{members, nodes_of}
@@ -28,11 +27,9 @@ use Rattle.sp_model.specs.Changes.{side_of, sides}
 use Rattle.sp_model.specs.declared.plan.Multipliers.{Multipliers}
 use Rattle.sp_model.specs.declared.plan.Plan.{Plan}
 use Rattle.sp_model.specs.declared.run.Run.{Run}
+use Rattle.sp_model.proofs.ScenarioPoints.{run_filled}
 use Rattle.sp_model.proofs.SumSome.{sum_some-le, sum_some-none}
-
--- no box of a run is empty
-run_filled : (run : Run) → Filled (sides run.program)
-run_filled run = recursion_from_All (λ (s : Side). s.lower ≤ℤ s.upper) (sides run.program) (All-map (λ (s : Side). s.lower ≤ℤ s.upper) side_of run.program.columns (λ k d l. (run.facts.stages.columns k d l).filled))
+use Rattle.base_words.proofs.NumberTests.{less_from_test}
 
 -- the least value of a problem is at most the value of a feasible point
 pub least_below : (problem : Problem) → Filled problem.columns → (v : ℤ) (x : List ℤ) → least_of problem ≡ Some v → Feasible problem x → v ≤ℤ value_of problem x
@@ -64,9 +61,6 @@ unfolding wait_and_see_of
 no_plan run e plan is =
     let found = sum_some-none (scenarios run) (λ s. least_of (problem_in run s)) e in
     none_feasible (problem_in run found.0) (run_filled run) found.2 (point_of plan found.0) (is.feasible found.0 found.1)
-
-below_from_test : (j n : ℕ) → nat_lt j n ≡ true → j < n
-below_from_test j n e = grind arith
 
 -- with prices a value is raised by the sum of the prices times the values
 priced_value : (p : Problem) (prices : ℕ → ℤ) (x : List ℤ) → value_of (with_prices p prices) x ≡ value_of p x +ℤ sum_below (length p.columns) (λ j. prices j *ℤ number_at x j)
@@ -122,7 +116,7 @@ column_zero run multipliers plan j balanced is l = by_leaf (nat_lt j run.nonleaf
         sum_below-same (scenarios run) (λ s. multiplier_of run multipliers s j *ℤ number_at (point_of plan s) j) (λ s. pos 0) (λ s k. ap (λ b. (if b then number_at multipliers.values (s * run.nonleaf + j) else pos 0) *ℤ number_at (point_of plan s) j) e ∙ zero_times (number_at (point_of plan s) j))
         ∙ sum_below-zero (scenarios run)
     by_leaf true e =
-        let early = below_from_test j run.nonleaf e in
+        let early = less_from_test j run.nonleaf e in
         let t = stage_of run j in
         let nodes = run.program.tree.nodes in
         let count = scenarios run in

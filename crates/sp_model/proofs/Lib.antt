@@ -3,10 +3,14 @@ pub mod SumSome
 pub mod EntryOrder
 pub mod Putting
 mod MergeSteps
-mod Cells
+pub mod Cells
 pub mod Sizes
+pub mod ProgramReach
+pub mod CostSpans
 pub mod Bounds
 pub mod DataFacts
 pub mod Lengths
 pub mod PlaceValues
 pub mod ScenarioPoints
+pub mod LeastValues
+pub mod LeastSums

@@ -1,7 +1,7 @@
 -- The next entry of a list in order that is put over another: what stands before it is left behind.
 
 use Rattle.std.proofs.Common.{arith, refl, sym, ap, subst, ◌∙◌, ◌≡◌, ℕ, zero, suc, ◌+◌, ◌<◌, ◌≤◌, nat_lt, Bool, true, false, cond, List, [], ◌∷◌, ◌++◌, length, get_or, take, drop, if◌then◌else◌}
-use Rattle.std.proofs.lemmas.List.{append_assoc, append-nil, drop-drop, length-drop, drop_all, drop_more}
+use Rattle.std.proofs.lemmas.List.{append_assoc, drop-drop, length-drop, drop_all, drop_more}
 use Rattle.std.proofs.lemmas.List.Sums.{prefix_len-le-length}
 use Rattle.base_words.proofs.Comparisons.{both_left}
 use Rattle.boxed_problem.specs.BoxedFacts.{no_entry}

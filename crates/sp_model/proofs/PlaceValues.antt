@@ -1,17 +1,16 @@
 -- A change gives its place a value, and no change of another place takes it away.
 
-use Rattle.std.proofs.Common.{arith, refl, sym, ap, subst, ◌∙◌, ◌≡◌, ℕ, zero, suc, ◌+◌, ◌<◌, ◌==◌, nat_lt, Bool, true, false, ◌&&◌, List, [], ◌∷◌, length, get_or, set, if◌then◌else◌, ℤ, pos}
-use Rattle.std.specs.Prelude.{find, option_map, unwrap_or, Option, Some}
-use Rattle.std.specs.List.{All, AllByRecursion, AllPairs, fold, insert}
+use Rattle.std.proofs.Common.{arith, refl, sym, ap, subst, ◌∙◌, ◌≡◌, ℕ, zero, suc, ◌<◌, ◌==◌, nat_lt, Bool, true, false, ◌&&◌, List, [], ◌∷◌, length, get_or, set, if◌then◌else◌, pos}
+use Rattle.std.specs.Prelude.{find, option_map, unwrap_or, Some}
+use Rattle.std.specs.List.{All, AllByRecursion, AllPairs, fold}
 use Rattle.std.proofs.lemmas.List.{length-map}
 use Rattle.std.proofs.lemmas.List.Elements.{recursion_from_All}
-use Rattle.base_words.specs.Sums.{number_at}
 use Rattle.base_words.proofs.Comparisons.{both, both_left, left_fails, right_fails}
-use Rattle.boxed_problem.specs.BoxedFacts.{limits_at, no_limits}
+use Rattle.boxed_problem.specs.BoxedFacts.{no_limits}
 use Rattle.boxed_problem.specs.declared.parts.Entry.{Entry}
 use Rattle.sp_model.specs.Changes.{Data, core_data, data_of, is_at, is_before, limits_of, put_entry, with_change}
 use Rattle.sp_model.specs.RunFacts.{IsScenario, are_limits, is_change, is_same_place}
-use Rattle.sp_model.specs.Values.{Has, IsUntouched, SameAt, cell_in, is_cell}
+use Rattle.sp_model.specs.Values.{Has, IsUntouched, SameAt, is_cell}
 use Rattle.sp_model.specs.declared.program.Change.{Change}
 use Rattle.sp_model.specs.declared.program.Change.TheVariants.{Cost, Cell, Limits}
 use Rattle.sp_model.specs.declared.program.Column.{Column}
@@ -34,14 +33,14 @@ write_other (y ∷ xs) (suc i) zero x d h = refl
 write_other (y ∷ xs) (suc i) (suc j) x d h = write_other xs i j x d (grind arith)
 
 -- the first one that passes, behind one that passes or not
-find_head : (p : Entry → Bool) (f : Entry) (fs : List Entry) → p f ≡ true → find p (f ∷ fs) ≡ Some f
+pub find_head : (p : Entry → Bool) (f : Entry) (fs : List Entry) → p f ≡ true → find p (f ∷ fs) ≡ Some f
 find_head p f fs h = ap (λ t. if t then Some f else find p fs) h
 
-find_behind : (p : Entry → Bool) (f : Entry) (fs : List Entry) → p f ≡ false → find p (f ∷ fs) ≡ find p fs
+pub find_behind : (p : Entry → Bool) (f : Entry) (fs : List Entry) → p f ≡ false → find p (f ∷ fs) ≡ find p fs
 find_behind p f fs h = ap (λ t. if t then Some f else find p fs) h
 
 -- an entry before a place isn't of the place
-before_other : (e f : Entry) → is_before f e ≡ true → is_cell e.row e.column f ≡ false
+pub before_other : (e f : Entry) → is_before f e ≡ true → is_cell e.row e.column f ≡ false
 before_other e f h = by_column (f.column == e.column) refl h
   where
     by_column : (t : Bool) → (f.column == e.column) ≡ t → (if t then nat_lt f.row e.row else nat_lt f.column e.column) ≡ true → (t && (f.row == e.row)) ≡ false
@@ -74,7 +73,7 @@ put_found e (f ∷ fs) = by_before (is_before f e) refl (is_at f e) refl (put_fo
     by_before false b false a r = ap (find (is_cell e.row e.column)) (put_front e f fs b a) ∙ find_head (is_cell e.row e.column) e (f ∷ fs) (own_cell e)
 
 -- and what is found at other places stays
-put_other : (i j : ℕ) (e : Entry) (fs : List Entry) → is_cell i j e ≡ false → find (is_cell i j) (put_entry e fs) ≡ find (is_cell i j) fs
+pub put_other : (i j : ℕ) (e : Entry) (fs : List Entry) → is_cell i j e ≡ false → find (is_cell i j) (put_entry e fs) ≡ find (is_cell i j) fs
 put_other i j e [] h = find_behind (is_cell i j) e [] h
 put_other i j e (f ∷ fs) h = by_before (is_before f e) refl (is_at f e) refl (put_other i j e fs h)
   where

@@ -1,6 +1,6 @@
 -- Entries put in their places one after another: which order of two may be turned, and how a list of them is put at once.
 
-use Rattle.std.proofs.Common.{arith, refl, sym, ap, subst, ◌∙◌, ◌≡◌, ℕ, ◌<◌, ◌==◌, nat_lt, Bool, true, false, ◌&&◌, List, [], ◌∷◌, ◌++◌, if◌then◌else◌}
+use Rattle.std.proofs.Common.{arith, refl, sym, ap, ◌∙◌, ◌≡◌, ◌==◌, nat_lt, Bool, true, false, ◌&&◌, List, [], ◌∷◌, ◌++◌, if◌then◌else◌}
 use Rattle.std.specs.List.{AllByRecursion}
 use Rattle.boxed_problem.specs.BoxedFacts.{ComesBefore}
 use Rattle.boxed_problem.specs.declared.parts.Entry.{Entry}
@@ -11,14 +11,14 @@ use Rattle.sp_model.proofs.EntryOrder.{after_is, before_is, IsChain, over_head, 
 abbrev pub AllAfter : Entry → List Entry → Type 0
 AllAfter e ds = AllByRecursion (λ d. is_before e d ≡ true) ds
 
-comes_before : (e f : Entry) → ComesBefore e f → is_before e f ≡ true
+pub comes_before : (e f : Entry) → ComesBefore e f → is_before e f ≡ true
 comes_before e f h = by_column (e.column == f.column) refl
   where
     by_column : (t : Bool) → (e.column == f.column) ≡ t → (if t then nat_lt e.row f.row else nat_lt e.column f.column) ≡ true
     by_column true c = let same : e.column ≡ f.column = grind arith in let less = h.1 same in grind arith
     by_column false c = let le = h.0 in grind arith
 
-chained : (e f g : Entry) → ComesBefore e f → ComesBefore f g → ComesBefore e g
+pub chained : (e f g : Entry) → ComesBefore e f → ComesBefore f g → ComesBefore e g
 chained e f g p q = let p0 = p.0 in let q0 = q.0 in (omega (arith, p0, q0), λ same. let first = p.1 (omega (arith, p0, q0, same)) in let second = q.1 (omega (arith, p0, q0, same)) in omega (arith, first, second))
 
 before_chain : (e f g : Entry) → is_before e f ≡ true → is_before f g ≡ true → is_before e g ≡ true

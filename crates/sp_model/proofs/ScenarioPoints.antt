@@ -1,12 +1,14 @@
 -- The boxes of a run aren't empty; one more scenario with a feasible point.
 
-use Rattle.std.proofs.Common.{arith, ◌≡◌, ℕ, ◌+◌, ◌<◌, ◌≤◌, ◌⊎◌, inl, inr, ◌≤ℤ◌, subst}
+use Rattle.std.proofs.Common.{arith, ◌≡◌, ℕ, ◌+◌, ◌<◌, ◌≤◌, ◌⊎◌, inl, inr, List, ℤ, ◌≤ℤ◌, subst, sym}
 use Rattle.std.proofs.lemmas.Bool.{cases_lt}
 use Rattle.std.proofs.lemmas.List.Elements.{All-map, recursion_from_All}
+use Rattle.boxed_problem.specs.Optimum.{Feasible}
 use Rattle.boxed_problem.specs.Sides.{Filled}
 use Rattle.boxed_problem.specs.declared.parts.Side.{Side}
 use Rattle.sp_model.specs.Changes.{side_of, sides}
-use Rattle.sp_model.specs.ScenarioPoints.{HasPoint, HavePoints}
+use Rattle.sp_model.specs.Problems.{problem_in, scenarios}
+use Rattle.sp_model.specs.ScenarioPoints.{HasPoint, HavePoints, IsFirstInfeasible}
 use Rattle.sp_model.specs.declared.run.Run.{Run}
 
 -- no box of a run is empty
@@ -20,3 +22,7 @@ points_more run s before has t l = by_place (cases_lt t s)
     by_place : (t < s) ⊎ (s ≤ t) → HasPoint run t
     by_place (inl less) = before t less
     by_place (inr more) = let same : s ≡ t = omega arith in subst (HasPoint run) same has
+
+-- a scenario without a feasible point, where each earlier one has one
+pub first_infeasible : (run : Run) (s scenario : ℕ) → s < scenarios run → HavePoints run s → scenario ≡ s → ((x : List ℤ) → Feasible (problem_in run s) x → ⊥) → IsFirstInfeasible run scenario
+first_infeasible run s scenario there before same none = subst (IsFirstInfeasible run) (sym same) (record { there = there; none = none; before = before })

@@ -4,10 +4,8 @@ use Rattle.std.proofs.Common.{arith, refl, ap, add-one, ◌∙◌, ◌≡◌, �
 use Rattle.std.proofs.lemmas.Int.{ints}
 use Rattle.std.specs.Option.{option_and_then, option_map}
 use Rattle.base_words.specs.Sums.{sum_below}
+use Rattle.base_words.proofs.FirstAnswers.{same_some}
 use Rattle.sp_model.specs.Problems.{sum_some}
-
-same_some : {a b : ℤ} → Some a ≡ Some b → a ≡ b
-same_some e = cc
 
 -- a sum of terms that are there, and at most those of another sum
 pub sum_some-le : (n : ℕ) (f : ℕ → Option ℤ) (g : ℕ → ℤ) (bound : ℤ) → sum_some n f ≡ Some bound → ((k : ℕ) (v : ℤ) → k < n → f k ≡ Some v → v ≤ℤ g k) → bound ≤ℤ sum_below n g

@@ -1,17 +1,16 @@
 -- What some data have at a place: the cost of a column, the entry of a row and a column, the limits
 -- of a row.
 
-use Rattle.std.specs.Prelude.{◌≡◌, ℕ, ◌==◌, ◌&&◌, Bool, true, false, find, ℤ, pos, Option, option_map, unwrap_or, slice_index_or}
+use Rattle.std.specs.Prelude.{◌≡◌, ℕ, ◌==◌, ◌&&◌, Bool, false, find, ℤ, pos, option_map, unwrap_or}
 use Rattle.std.specs.List.{All}
 use Rattle.base_words.specs.Sums.{number_at}
 use Rattle.boxed_problem.specs.BoxedFacts.{limits_at}
 use Rattle.boxed_problem.specs.declared.parts.Entry.{Entry}
 use Rattle.boxed_problem.specs.declared.parts.Limits.{Limits}
-use Rattle.sp_model.specs.Changes.{Data, data_of}
+use Rattle.sp_model.specs.Changes.{Data}
 use Rattle.sp_model.specs.RunFacts.{is_same_place}
 use Rattle.sp_model.specs.declared.program.Change.{Change}
 use Rattle.sp_model.specs.declared.program.Change.TheVariants as change
-use Rattle.sp_model.specs.declared.program.Program.{Program}
 use Rattle.sp_model.specs.declared.program.Scenario.{Scenario}
 
 -- the cost of column j

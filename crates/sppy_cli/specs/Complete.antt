@@ -12,7 +12,8 @@ use Rattle.sppy_cli.specs.Causes.{IsCause, IsInstanceOf}
 use Rattle.sppy_cli.specs.declared.instance.Instance.{Instance}
 use Rattle.sppy_cli.specs.declared.status.Status.{Status}
 use Rattle.sppy_cli.specs.declared.status.Status.TheVariants as status
-use Rattle.wait_and_see.specs.WaitAnswers.{AllHavePoints, IsSpent}
+use Rattle.wait_and_see.specs.Spending.{IsSpent}
+use Rattle.wait_and_see.specs.WaitAnswers.{AllHavePoints}
 
 -- a count of faults doesn't rise
 abbrev pub IsCalm : ℕ → ℕ → Type 0

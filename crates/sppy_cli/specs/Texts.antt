@@ -13,7 +13,7 @@ use Rattle.sppy_cli.specs.declared.status.Status.TheVariants as status
 use Rattle.text_lines.specs.BoundLines.{IsBoundText}
 use Rattle.text_lines.specs.Headings.{heading_of, unit_of}
 use Rattle.text_lines.specs.ShowLines.{show_lines_of}
-use Rattle.wait_and_see.specs.WaitAnswers.{IsSpent}
+use Rattle.wait_and_see.specs.Spending.{IsSpent}
 
 -- the text of the heading
 abbrev pub heading_text : Instance → List ℕ

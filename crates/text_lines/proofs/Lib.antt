@@ -1,3 +1,2 @@
-mod RowLimitLaws
 mod Ranges
 pub mod Units

@@ -1,11 +1,13 @@
 pub mod Lines
 pub mod Headings
 pub mod BoundLines
-pub mod RowLimits
 pub mod ShowLines
+pub use Rattle.boxed_problem.specs.BoxedFacts
 pub use Rattle.sp_model.specs.Changes
+pub use Rattle.sp_model.specs.Drafts
 pub use Rattle.sp_model.specs.Plans
 pub use Rattle.sp_model.specs.Problems
+pub use Rattle.sp_model.specs.Values
 pub use Rattle.tree_core.specs.Nodes
 pub use Rattle.wide_num.specs.FractionText
 pub use Rattle.wide_num.specs.LowestTerms

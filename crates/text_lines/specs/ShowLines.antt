@@ -7,12 +7,12 @@ use Rattle.boxed_problem.specs.declared.parts.Limits.{Limits}
 use Rattle.smps_words.specs.declared.core_file.Core.{Core}
 use Rattle.sp_model.specs.Plans.{no_column}
 use Rattle.sp_model.specs.Problems.{data_at, scenario_at}
+use Rattle.sp_model.specs.Values.{limits_in}
 use Rattle.sp_model.specs.declared.program.Column.{Column}
 use Rattle.sp_model.specs.declared.program.Row.{Row}
 use Rattle.sp_model.specs.declared.run.Run.{Run}
 use Rattle.tree_core.specs.Nodes.{node_place}
 use Rattle.text_lines.specs.Lines.{limit_text, line_of, name_at}
-use Rattle.text_lines.specs.RowLimits.{no_limits}
 
 -- what stands past the end of the rows
 abbrev pub no_row : Row
@@ -48,10 +48,7 @@ abbrev pub scenario_line : Run → ℕ → List ℕ
 scenario_line run s =
     line_of (codes "scenario " ++ decimal (s + 1) ++ codes " weight " ++ signed_decimal (scenario_at run s).weight ++ codes " nodes" ++ nodes_text run s)
 
--- the limits of row i in scenario s
-abbrev pub limits_in : Run → ℕ → ℕ → Limits
-limits_in run s i = slice_index_or (data_at run s).limits i no_limits
-
+-- the line of the limits of row i in scenario s
 abbrev pub limits_line : Core → ℕ → ℕ → Limits → List ℕ
 limits_line core s i limits =
     line_of (codes "limits " ++ decimal (s + 1) ++ codes " " ++ name_at core.row_names i ++ codes " " ++ limit_text limits.lower ++ codes " " ++ limit_text limits.upper)
@@ -59,7 +56,7 @@ limits_line core s i limits =
 -- scenario s, and the limits of each row in it
 abbrev pub scenario_lines_of : Core → Run → ℕ → List (List ℕ)
 scenario_lines_of core run s =
-    scenario_line run s ∷ map (λ i. limits_line core s i (limits_in run s i))
+    scenario_line run s ∷ map (λ i. limits_line core s i (limits_in (data_at run s) i))
     (range_with_len 0 (length run.program.rows))
 
 -- all columns, and all rows

@@ -1,7 +1,8 @@
 ghost use Rattle.std.specs.Prelude.{◌≡◌, ◌<◌, map, slice_index_or, IfOk};
+ghost use Rattle.boxed_problem.specs.BoxedFacts.{no_limits};
 ghost use Rattle.sp_model.specs.Changes.{data_of, limits_of};
+ghost use Rattle.sp_model.specs.Drafts.{with_limits};
 ghost use Rattle.sp_model.specs.Problems.{data_at, scenarios};
-ghost use Rattle.text_lines.specs.RowLimits.{no_limits, with_limits};
 
 use boxed_problem::Limits;
 use sp_model::{Change, Program, Row, Run, Scenario};

@@ -1,2 +1,1 @@
-mod Weighing
 pub mod Points

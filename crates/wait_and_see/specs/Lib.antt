@@ -1,4 +1,5 @@
 pub mod WaitAnswers
+pub mod Spending
 pub mod Solving
 pub use Rattle.boxed_problem.specs.Optimum
 pub use Rattle.branch_bound.specs.Answers

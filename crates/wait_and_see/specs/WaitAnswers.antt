@@ -1,23 +1,15 @@
 -- What the sum of the least values answers.
-use Rattle.std.specs.Prelude.{◌≡◌, ℕ, ℤ, ◌<◌, Some, Result, Ok, Err}
-use Rattle.branch_bound.specs.PlainSearch.{ref_count}
-use Rattle.sp_model.specs.Problems.{problem_in, scenarios, wait_and_see_of}
+use Rattle.std.specs.Prelude.{◌≡◌, ℤ, Some, Result, Ok, Err}
+use Rattle.sp_model.specs.Problems.{scenarios, wait_and_see_of}
 use Rattle.sp_model.specs.ScenarioPoints.{HavePoints, IsFirstInfeasible}
 use Rattle.sp_model.specs.declared.run.Run.{Run}
+use Rattle.wait_and_see.specs.Spending.{IsSpent}
 use Rattle.wait_and_see.specs.declared.fault.WaitFault.{WaitFault}
 use Rattle.wait_and_see.specs.declared.fault.WaitFault.TheVariants.{Infeasible, Spent, Memory}
 
 -- each scenario of a run has a feasible point
 abbrev pub AllHavePoints : Run → Type 0
 AllHavePoints run = HavePoints run (scenarios run)
-
--- the budget of boxes was used up in scenario s, which the plain search can't solve within it
--- either, and each earlier one has a feasible point
-pub record IsSpent (run : Run) (s opened : ℕ) : Type 0 where
-  pub there : s < scenarios run
-  pub all : opened ≡ run.options.budget
-  pub more : run.options.budget < ref_count (problem_in run s)
-  pub before : HavePoints run s
 
 -- the answer is the wait-and-see bound, or the first scenario without a feasible point, or one that
 -- used up its budget; want of memory is free

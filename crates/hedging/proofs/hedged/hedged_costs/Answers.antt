@@ -4,7 +4,8 @@ use Rattle.std.specs.Int.{w128}
 use Rattle.base_words.specs.Sums.{number_at}
 use Rattle.base_words.proofs.Made.{map_next}
 use Rattle.put_words.specs.Hedged.{hedged_line}
-use Rattle.put_words.proofs.Spans.{costs_long, line_small}
+use Rattle.sp_model.proofs.DataFacts.{line_small}
+use Rattle.put_words.proofs.Spans.{costs_long}
 use Rattle.hedging.proofs.hedged.hedged_costs.Goals as goal
 
 pub bounds-costs-column : goal.bounds-costs-column

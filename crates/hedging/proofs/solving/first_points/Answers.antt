@@ -1,10 +1,11 @@
-use Rattle.std.proofs.Common.{rules, arith, refl, ap, ◌∙◌, ◌≡◌, ℕ, ◌+◌, ◌<◌, ◌≤◌, ℤ, ◌+ℤ◌, to_z, FitsSigned, Option}
+use Rattle.std.proofs.Common.{rules, arith, sym, ap, ◌∙◌, ◌≡◌, ℕ, ◌+◌, ◌<◌, ◌≤◌, ℤ, ◌+ℤ◌, to_z, FitsSigned, Option, Some}
 use Rattle.std.proofs.lemmas.Int.{to_z-of_z}
 use Rattle.std.specs.Int.{w128}
 use Rattle.base_words.proofs.Magnitudes.{fits_from_abs}
 use Rattle.sp_model.specs.Problems.{least_of, problem_in, scenarios, sum_some, wait_and_see_of}
 use Rattle.put_words.specs.Puts.{bests_below}
-use Rattle.put_words.proofs.Bounded.{sum_next, wait_small}
+use Rattle.sp_model.proofs.LeastSums.{wait_small}
+use Rattle.sp_model.proofs.SumSome.{sum_more}
 use Rattle.put_words.proofs.Unpriced.{points_before}
 use Rattle.hedging.proofs.Makings.{ended_at, least_is, points_next}
 use Rattle.hedging.proofs.solving.first_points.Goals as goal
@@ -24,7 +25,7 @@ plus-bound-requires c =
     let f : ℕ → Option ℤ = λ s. least_of (problem_in run s) in
     let fv : FitsSigned w128 c.in-Ok.best.value = search rules in
     let whole = to_z w128 c.loop-scenario.bound-bits +ℤ c.in-Ok.best.value in
-    let next = sum_next f k (to_z w128 c.loop-scenario.bound-bits) c.in-Ok.best.value whole c.loop-scenario.invariant.sum (least_is (problem_in run k) c.in-Ok.best c.in-Ok.ensures.ok) refl in
+    let next = sum_more f k (to_z w128 c.loop-scenario.bound-bits) c.in-Ok.best.value c.loop-scenario.invariant.sum (least_is (problem_in run k) c.in-Ok.best c.in-Ok.ensures.ok) in
     let small = wait_small run (k + 1) whole there next in
     simp to_z-of_z (fits_from_abs whole (omega (arith, small)))
 
@@ -38,7 +39,7 @@ loop-scenario-preserved c =
     let whole : c.plus-bound.result ≡ (to_z w128 c.loop-scenario.bound-bits +ℤ c.in-Ok.best.value) = simp to_z-of_z at c.plus-bound.ensures in
     record {
       points = points_next k (problem_in run) c.loop-scenario.points c.push.new.self c.in-Ok.best c.loop-scenario.invariant.points c.in-Ok.ensures.ok c.in-Ok-push.ensures.ok;
-      sum = simp to_z-of_z (sum_next f k (to_z w128 c.loop-scenario.bound-bits) c.in-Ok.best.value c.plus-bound.result c.loop-scenario.invariant.sum (least_is (problem_in run k) c.in-Ok.best c.in-Ok.ensures.ok) whole);
+      sum = simp to_z-of_z (sum_more f k (to_z w128 c.loop-scenario.bound-bits) c.in-Ok.best.value c.loop-scenario.invariant.sum (least_is (problem_in run k) c.in-Ok.best c.in-Ok.ensures.ok) ∙ ap Some (sym whole));
     }
 
 pub returns-clause-points : goal.returns-clause-points

@@ -1,4 +1,4 @@
-use Rattle.std.proofs.Common.{arith, ◌≡◌, ◌<◌, get_or, length, pos}
+use Rattle.std.proofs.Common.{arith, ◌<◌, get_or, length, pos}
 use Rattle.std.proofs.lemmas.List.{get_or_default}
 use Rattle.sp_model.specs.declared.program.Change.TheVariants.{Cost}
 use Rattle.sp_model.proofs.Cells.{cells_more}

@@ -1,9 +1,8 @@
-use Rattle.std.proofs.Common.{arith, ap, sym, ◌∙◌, ◌≡◌, ◌<◌, ◌≤◌, ◌+◌, ◌++◌, ◌∷◌, [], List, get_or, length, drop, take}
+use Rattle.std.proofs.Common.{arith, ap, ◌∙◌, ◌≡◌, ◌<◌, ◌+◌, ◌++◌, ◌∷◌, [], get_or, length, drop, take}
 use Rattle.std.proofs.lemmas.List.{get_or_default, take_rest}
 use Rattle.boxed_problem.specs.BoxedFacts.{no_entry}
-use Rattle.boxed_problem.specs.declared.parts.Entry.{Entry}
 use Rattle.sp_model.specs.Changes.{passed_by, place_of, put_entries}
-use Rattle.sp_model.proofs.MergeSteps.{merge_end, merge_more, passed_there}
+use Rattle.sp_model.proofs.MergeSteps.{merge_more, passed_there}
 use Rattle.sp_model.proofs.merging.merged.Goals as goal
 
 pub loop-entry-preserved : goal.loop-entry-preserved

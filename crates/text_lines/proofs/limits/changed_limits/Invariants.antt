@@ -1,7 +1,7 @@
 use Rattle.std.proofs.Common.{◌≡◌, map, take}
 use Rattle.std.specs.List.{fold}
 use Rattle.sp_model.specs.Changes.{limits_of}
-use Rattle.text_lines.specs.RowLimits.{with_limits}
+use Rattle.sp_model.specs.Drafts.{with_limits}
 use Rattle.text_lines.proofs.limits.changed_limits.Given as goal
 
 abbrev pub invariant-loop-change : goal.invariant-loop-change

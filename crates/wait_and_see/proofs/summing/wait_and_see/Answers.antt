@@ -1,22 +1,22 @@
-use Rattle.std.proofs.Common.{arith, rules, ap, ◌∙◌, ◌≡◌, ◌+◌, ◌<◌, to_z, ◌+ℤ◌, FitsSigned}
+use Rattle.std.proofs.Common.{arith, rules, ap, ◌∙◌, ◌≡◌, ◌+◌, ◌<◌, ◌≤◌, to_z, ◌+ℤ◌, FitsSigned}
 use Rattle.std.proofs.lemmas.Int.{to_z-of_z}
 use Rattle.std.specs.Int.{w128}
 use Rattle.base_words.proofs.Magnitudes.{fits_from_abs}
 use Rattle.sp_model.specs.Problems.{scenarios, sum_some, wait_and_see_of}
+use Rattle.sp_model.proofs.LeastSums.{wait_small}
 use Rattle.sp_model.proofs.ScenarioPoints.{points_more}
 use Rattle.sp_model.proofs.SumSome.{sum_more}
-use Rattle.wait_and_see.proofs.Points.{ended_at, least_bounded, least_in, point_of}
-use Rattle.wait_and_see.proofs.Weighing.{sum_le, sum_step}
+use Rattle.wait_and_see.proofs.Points.{ended_at, least_in, point_of}
 use Rattle.wait_and_see.proofs.summing.wait_and_see.Goals as goal
 
 pub overflow_add-bound : goal.overflow_add-bound
 overflow_add-bound c =
     let run = c.args.run.now in
-    let there : c.loop-s.s < scenarios run = omega (arith, c.len-s-end.ensures, c.loop-s-test.true) in
+    let there : c.loop-s.s + 1 ≤ scenarios run = omega (arith, c.len-s-end.ensures, c.loop-s-test.true) in
     let fv : FitsSigned w128 c.in-Ok.value = search rules in
-    let small = sum_step run c.loop-s.s (to_z w128 c.loop-s.bound-bits) c.in-Ok.value there c.loop-s.invariant.small (least_bounded run c.loop-s.s c.in-Ok.value there c.in-Ok.ensures) in
-    let limit = sum_le run (c.loop-s.s + 1) (to_z w128 c.loop-s.bound-bits +ℤ c.in-Ok.value) small in
-    simp to_z-of_z (fits_from_abs (to_z w128 c.loop-s.bound-bits +ℤ c.in-Ok.value) (omega (arith, limit)))
+    let whole = to_z w128 c.loop-s.bound-bits +ℤ c.in-Ok.value in
+    let next = sum_more (least_in run) c.loop-s.s (to_z w128 c.loop-s.bound-bits) c.in-Ok.value c.loop-s.invariant.sum c.in-Ok.ensures in
+    simp to_z-of_z (fits_from_abs whole (omega (arith, wait_small run (c.loop-s.s + 1) whole there next)))
 
 pub returns-in-Err-clause-answer : goal.returns-in-Err-clause-answer
 returns-in-Err-clause-answer c =
@@ -27,14 +27,13 @@ returns-in-Err-clause-answer c =
 pub loop-s-preserved : goal.loop-s-preserved
 loop-s-preserved c =
     let run = c.args.run.now in
-    let there : c.loop-s.s < scenarios run = omega (arith, c.len-s-end.ensures, c.loop-s-test.true) in
+    let there : c.loop-s.s + 1 ≤ scenarios run = omega (arith, c.len-s-end.ensures, c.loop-s-test.true) in
     let fv : FitsSigned w128 c.in-Ok.value = search rules in
-    let small = sum_step run c.loop-s.s (to_z w128 c.loop-s.bound-bits) c.in-Ok.value there c.loop-s.invariant.small (least_bounded run c.loop-s.s c.in-Ok.value there c.in-Ok.ensures) in
-    let limit = sum_le run (c.loop-s.s + 1) (to_z w128 c.loop-s.bound-bits +ℤ c.in-Ok.value) small in
-    let fs : FitsSigned w128 (to_z w128 c.loop-s.bound-bits +ℤ c.in-Ok.value) = fits_from_abs (to_z w128 c.loop-s.bound-bits +ℤ c.in-Ok.value) (omega (arith, limit)) in
+    let whole = to_z w128 c.loop-s.bound-bits +ℤ c.in-Ok.value in
+    let next = sum_more (least_in run) c.loop-s.s (to_z w128 c.loop-s.bound-bits) c.in-Ok.value c.loop-s.invariant.sum c.in-Ok.ensures in
+    let fs : FitsSigned w128 whole = fits_from_abs whole (omega (arith, wait_small run (c.loop-s.s + 1) whole there next)) in
     record {
-      sum = simp to_z-of_z (sum_more (least_in run) c.loop-s.s (to_z w128 c.loop-s.bound-bits) c.in-Ok.value c.loop-s.invariant.sum c.in-Ok.ensures);
-      small = simp to_z-of_z small;
+      sum = simp to_z-of_z next;
       before = points_more run c.loop-s.s c.loop-s.invariant.before (point_of run c.loop-s.s c.in-Ok.value c.in-Ok.ensures);
     }
 
@@ -46,4 +45,6 @@ returns-clause-answer c =
     ap (λ n. sum_some n (least_in run)) all ∙ c.loop-s.invariant.sum
 
 pub returns-clause-small : goal.returns-clause-small
-returns-clause-small c = sum_le c.args.run.now c.loop-s.s (to_z w128 c.loop-s.bound-bits) c.loop-s.invariant.small
+returns-clause-small c =
+    let most : c.loop-s.s ≤ scenarios c.args.run.now = omega (arith, c.len-s-end.ensures, c.loop-s.auto.s-end) in
+    wait_small c.args.run.now c.loop-s.s (to_z w128 c.loop-s.bound-bits) most c.loop-s.invariant.sum

@@ -1,0 +1,211 @@
+use crate::problems::{Row, problem, small, tied};
+use boxed_problem::{Boxed, scan};
+use branch_bound::{SolveFault, solve};
+use std::alloc::{AllocError, Global};
+use std::process::Abort;
+use std::test::Fail;
+use wide_num::List;
+
+#[test]
+fn counts_boxes_of_small(rt: HostRuntime) -> Result<(), Fail> {
+    for (need, x, value, few) in [(2, 2, 20, 13), (6, 6, 60, 21)] {
+        let problem = small(&rt, rt.alloc(), need)?;
+        let best = solve(rt.alloc(), &problem, few)?;
+        assert_eq!(rt; best.value, value);
+        assert_eq!(rt; best.point.as_slice(), [x, 0].as_slice());
+        let fault = solve(rt.alloc(), &problem, 1).err();
+        assert_eq!(rt; fault, Some(SolveFault::Spent { opened: 1 }));
+        let none = solve(rt.alloc(), &problem, 0).err();
+        assert_eq!(rt; none, Some(SolveFault::Spent { opened: 0 }));
+    }
+    let far = small(&rt, rt.alloc(), 21)?;
+    assert_eq!(rt;
+        solve(rt.alloc(), &far, 1).err(),
+        Some(SolveFault::Infeasible)
+    );
+    Ok(())
+}
+
+/// The problem of two columns with these ends and these linear and square
+/// parts, over rows that each hold the first column plus `by` times the second.
+fn crossed(
+    alloc: Global,
+    columns: [(i64, i64); 2],
+    objective: [(i128, i128); 2],
+    by: i128,
+    rows: &[Row],
+) -> Result<Option<Boxed>, AllocError> {
+    let mut entries = List::new(alloc);
+    for (column, value) in [(0, 1), (1, by)] {
+        for row in 0..rows.len() as u32 {
+            entries.push((row, column, value))?;
+        }
+    }
+    problem(alloc, &columns, rows, entries.as_slice(), 0, &objective)
+}
+
+/// What a farmer buys and sells after a harvest: wheat, corn and beets of three
+/// fields, with so many tenths of a ton, and tons of beets, for each acre.
+fn farm(alloc: Global, wheat: i128, corn: i128, beets: i128) -> Result<Option<Boxed>, AllocError> {
+    let much = (0, 10_000);
+    let columns = [
+        (170, 170),
+        (80, 80),
+        (250, 250),
+        much,
+        much,
+        much,
+        much,
+        (0, 6_000),
+        much,
+    ];
+    let objective = [
+        (150, 0),
+        (230, 0),
+        (260, 0),
+        (238, 0),
+        (210, 0),
+        (-170, 0),
+        (-150, 0),
+        (-36, 0),
+        (-10, 0),
+    ];
+    let rows = [
+        (None, Some(500)),
+        (Some(2_000), None),
+        (Some(2_400), None),
+        (Some(0), None),
+    ];
+    let entries = [
+        (0, 0, 1),
+        (1, 0, wheat),
+        (0, 1, 1),
+        (2, 1, corn),
+        (0, 2, 1),
+        (3, 2, beets),
+        (1, 3, 10),
+        (2, 4, 10),
+        (1, 5, -10),
+        (2, 6, -10),
+        (3, 7, -1),
+        (3, 8, -1),
+    ];
+    problem(alloc, &columns, &rows, &entries, 0, &objective)
+}
+
+#[test]
+fn needs_few_boxes_for_the_farm(rt: HostRuntime) -> Result<(), Fail> {
+    let harvests = [
+        (30, 36, 24, -167_000),
+        (25, 30, 20, -109_350),
+        (20, 24, 16, -48_820),
+    ];
+    for (wheat, corn, beets, value) in harvests {
+        let found = farm(rt.alloc(), wheat, corn, beets)?;
+        let problem = found.expect(&rt, "a problem");
+        let best = solve(rt.alloc(), &problem, 1000)?;
+        assert_eq!(rt; best.value, value);
+    }
+    Ok(())
+}
+
+/// Whether the search and the list of all points give the same answer.
+fn agrees(alloc: Global, problem: &Boxed) -> Result<bool, AllocError> {
+    if !problem.has_few_points() {
+        return Ok(false);
+    }
+    let listed = scan(alloc, problem)?;
+    match solve(alloc, problem, 10000) {
+        Ok(best) => Ok(listed == Some(best)),
+        Err(SolveFault::Infeasible) => Ok(listed.is_none()),
+        Err(_) => Ok(false),
+    }
+}
+
+#[test]
+fn takes_the_first_of_equals(rt: HostRuntime) -> Result<(), Fail> {
+    let tied = tied(&rt, rt.alloc())?;
+    assert!(rt; agrees(rt.alloc(), &tied)?);
+    Ok(())
+}
+
+#[test]
+fn agrees_with_the_list_of_points(rt: HostRuntime) -> Result<(), Fail> {
+    let boxes = [
+        [(0, 3), (-2, 2)],
+        [(-3, -1), (0, 0)],
+        [(5, 5), (-4, 4)],
+        [(-2, 3), (-2, 3)],
+        [(1, 1), (-1, -1)],
+    ];
+    let objectives = [
+        [(1, 0), (1, 0)],
+        [(-3, 2), (4, 0)],
+        [(0, 1), (-5, 3)],
+        [(0, 0), (-1, 0)],
+        [(2, 0), (2, 0)],
+        [(-7, 1), (3, 2)],
+    ];
+    let limits = [
+        [(None, None), (None, None)],
+        [(Some(1), None), (None, Some(3))],
+        [(Some(-1), Some(1)), (Some(-2), None)],
+        [(Some(2), Some(2)), (None, None)],
+        [(Some(90), None), (None, None)],
+        [(None, Some(-3)), (Some(-9), Some(4))],
+        [(Some(0), Some(0)), (Some(0), None)],
+    ];
+    for columns in boxes {
+        for objective in objectives {
+            for rows in limits {
+                let found = crossed(rt.alloc(), columns, objective, -2, &rows)?;
+                let problem = found.expect(&rt, "a problem");
+                assert!(rt;
+                    agrees(rt.alloc(), &problem)?,
+                    "{columns:?} {objective:?} {rows:?}"
+                );
+            }
+        }
+    }
+    Ok(())
+}
+
+#[test]
+fn needs_no_columns_and_no_rows(rt: HostRuntime) -> Result<(), Fail> {
+    let alloc = rt.alloc();
+    for (lower, feasible) in [(0, true), (1, false)] {
+        let found = problem(alloc, &[], &[(Some(lower), None)], &[], 7, &[])?;
+        let problem = found.expect(&rt, "a problem");
+        assert_eq!(rt; solve(alloc, &problem, 1).is_ok(), feasible);
+        assert!(rt; agrees(alloc, &problem)?);
+    }
+    let free = crossed(alloc, [(-2, 2), (1, 4)], [(-1, 1), (2, 0)], 1, &[])?;
+    assert!(rt; agrees(alloc, &free.expect(&rt, "a problem"))?);
+    Ok(())
+}
+
+#[test]
+fn reaches_the_greatest_numbers(rt: HostRuntime) -> Result<(), Fail> {
+    let most = 1 << 122;
+    let half = 1 << 121;
+    let cases = [
+        (half, half, -most, 1, -most),
+        (half, half - 1, -most, 0, 0),
+        (-half, -half, most, 1, most),
+        (-half, half, most, 0, 0),
+    ];
+    for (entry, upper, linear, x, value) in cases {
+        let found = problem(
+            rt.alloc(),
+            &[(0, 1)],
+            &[(None, Some(upper))],
+            &[(0, 0, entry)],
+            0,
+            &[(linear, 0)],
+        )?;
+        let best = solve(rt.alloc(), &found.expect(&rt, "a problem"), 10)?;
+        assert_eq!(rt; best.value, value, "at {entry} {upper}");
+        assert_eq!(rt; best.point.as_slice(), [x].as_slice(), "at {entry} {upper}");
+    }
+    Ok(())
+}
