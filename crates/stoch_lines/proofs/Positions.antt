@@ -1,5 +1,5 @@
 -- Places of the first item that passes, as an option and as a number.
-use Rattle.std.proofs.Common.{◌≡◌, refl, ℕ, ◌<◌, Bool, true, false, cond, List, [], ◌∷◌, length, Some, None, arith}
+use Rattle.std.proofs.Common.{◌≡◌, ◌≢◌, refl, ℕ, ◌<◌, Bool, true, false, cond, List, [], ◌∷◌, length, Some, None, arith}
 use Rattle.std.specs.Prelude.{position}
 use Rattle.std.specs.List.{position_or_len, list_any}
 use Rattle.std.proofs.lemmas.Grind.{common_steps}
@@ -41,6 +41,14 @@ any_some_by p xs k some false e =
 any_none_by : {X : Type 0} (p : X → Bool) (xs : List X) → position p xs ≡ None → (b : Bool) → list_any p xs ≡ b → b ≡ false
 any_none_by p xs none false e = refl
 any_none_by p xs none true e = absurd (omega (arith, position_none p xs none, some_passes p xs e))
+
+any_by : {X : Type 0} (p : X → Bool) (xs : List X) → position_or_len p xs ≢ length xs → (b : Bool) → list_any p xs ≡ b → b ≡ true
+any_by p xs other true e = refl
+any_by p xs other false e = absurd (other (none_passes p xs e))
+
+-- some item passes where the place of the first one isn't the end
+pub any_before_end : {X : Type 0} (p : X → Bool) (xs : List X) → position_or_len p xs ≢ length xs → list_any p xs ≡ true
+any_before_end p xs other = any_by p xs other (list_any p xs) refl
 
 -- whether some item passes, by the place of the first one that does
 pub any_some : {X : Type 0} (p : X → Bool) (xs : List X) (k : ℕ) → position p xs ≡ Some k → list_any p xs ≡ true

@@ -116,11 +116,16 @@ module _ (core : Core) (periods : Periods) where
     begun = if opens_or_ends line then not line.header else b.begun;
   }
 
--- what a line says of one more realisation, whose element may be new
-abbrev pub with_saying : Before → Saying → Before
-with_saying b saying = record b {
+-- what a line says of an element, which may be new
+abbrev pub with_element : Before → Saying → Before
+with_element b saying = record b {
   sources = with_source b.sources saying;
   periods = b.periods ++ new_period b.sources saying;
+}
+
+-- and of one more realisation of it
+abbrev pub with_saying : Before → Saying → Before
+with_saying b saying = record (with_element b saying) {
   realisations = b.realisations ++ chosen_by b.sources saying ∷ [];
 }
 

@@ -6,7 +6,7 @@ ghost use Rattle.smps_words.specs.TextLines.{text_of};
 ghost use Rattle.stoch_lines.specs.declared.heading.Heading.TheVariants.{Blocks};
 ghost use Rattle.stoch_lines.specs.Before.{with_block, with_entries, with_saying};
 ghost use Rattle.stoch_lines.specs.Faults.{block_form, block_rules, block_fault, block_data_fault, is_taken, is_twice_in_block};
-ghost use Rattle.stoch_lines.specs.Sayings.{begins_block, block_number, last_element, owned_by, with_name};
+ghost use Rattle.stoch_lines.specs.Sayings.{begins_block, block_number, element_of, last_element, owned_by, with_name};
 ghost use Rattle.stoch_lines.specs.Turns.{before_in, pair_entries, pair_places, Adds, AreBlockFields};
 
 use crate::entries::Owned;
@@ -45,10 +45,11 @@ fn fields_of(periods: &Periods, line: &FileLine<'_>) -> Result<BlockFields, Stoc
     })
 }
 
-fn rules(state: &State, saying: &Saying) -> Result<(), StochKind>
+fn rules(state: &State, saying: &Saying, element: usize) -> Result<(), StochKind>
+    requires { element ≡ element_of state.now.sources saying.now.source }
     ensures { Passes (block_rules (before_in state.now) saying.now) result (λ _. Unit {0}) }
 {
-    let period = state.own_period(saying);
+    let period = state.own_period(saying, element);
     if period == 1 {
         return Err(StochKind::EarlyEntry);
     }
@@ -83,13 +84,19 @@ impl State {
         }
     }
 
-    fn begin_realisation(&mut self, name: &[u8], saying: &Saying) -> Result<(), AllocError>
+    fn begin_realisation(
+        &mut self,
+        name: &[u8],
+        saying: &Saying,
+        element: usize,
+    ) -> Result<(), AllocError>
+        requires { element ≡ element_of self.old.sources saying.now.source }
         ensures { OnOk result
             (before_in self.new ≡ with_saying (with_block (before_in self.old) name.now)
             saying.now) }
     {
         add_name(&mut self.blocks, name)?;
-        self.add_realisation(saying)
+        self.add_realisation(saying, element)
     }
 
     /// A line of BLOCKS that begins a realisation.
@@ -109,10 +116,11 @@ impl State {
             period: fields.period,
             probability: fields.probability,
         };
-        if let Err(kind) = rules(self, &saying) {
+        let element = self.sources.element_of(saying.source);
+        if let Err(kind) = rules(self, &saying, element) {
             return Err(fault_at(line, kind));
         }
-        let Ok(()) = self.begin_realisation(line.field(1), &saying) else {
+        let Ok(()) = self.begin_realisation(line.field(1), &saying, element) else {
             return Err(StochFault::Memory);
         };
         Ok(())

@@ -4,7 +4,7 @@ ghost use Rattle.smps_words.specs.TextLines.{text_of};
 ghost use Rattle.stoch_lines.specs.declared.heading.Heading.TheVariants.{Indep};
 ghost use Rattle.stoch_lines.specs.Before.{with_single};
 ghost use Rattle.stoch_lines.specs.Faults.{named_fault, indep_form, indep_rules, indep_fault};
-ghost use Rattle.stoch_lines.specs.Sayings.{named_period, saying_at};
+ghost use Rattle.stoch_lines.specs.Sayings.{element_of, named_period, saying_at};
 ghost use Rattle.stoch_lines.specs.Turns.{before_in, Adds, AreIndepFields};
 
 use crate::entries::Owned;
@@ -76,13 +76,15 @@ fn rules(
     state: &State,
     fields: &IndepFields,
     saying: &Saying,
+    element: usize,
 ) -> Result<(), StochKind>
+    requires { element ≡ element_of state.now.sources saying.now.source }
     ensures { Passes
         (indep_rules periods.now (before_in state.now) fields.now.entry.place fields.now.named
         saying.now) result (λ _. Unit {0}) }
 {
     let place = fields.entry.place;
-    let period = state.own_period(saying);
+    let period = state.own_period(saying, element);
     if anticipates(periods, place) {
         return Err(StochKind::Anticipates);
     }
@@ -92,7 +94,6 @@ fn rules(
     if fields.named.unwrap_or(period) != period {
         return Err(StochKind::Clash);
     }
-    let element = state.sources.element_of(saying.source);
     if state.entries.is_taken(element, place) {
         return Err(StochKind::Twice);
     }
@@ -100,13 +101,18 @@ fn rules(
 }
 
 impl State {
-    fn add_single(&mut self, saying: &Saying, entry: StochEntry) -> Result<(), AllocError>
+    fn add_single(
+        &mut self,
+        saying: &Saying,
+        element: usize,
+        entry: StochEntry,
+    ) -> Result<(), AllocError>
+        requires { element ≡ element_of self.old.sources saying.now.source }
         ensures { OnOk result
             (before_in self.new ≡ with_single (before_in self.old) saying.now entry) }
     {
-        let element = self.sources.element_of(saying.source);
         let choice = self.realisations.len();
-        self.add_realisation(saying)?;
+        self.add_realisation(saying, element)?;
         self.entries.push(Owned {
             element,
             choice,
@@ -131,10 +137,11 @@ impl State {
             Err(kind) => return Err(fault_at(line, kind)),
         };
         let saying = saying_of(periods, &fields);
-        if let Err(kind) = rules(periods, self, &fields, &saying) {
+        let element = self.sources.element_of(saying.source);
+        if let Err(kind) = rules(periods, self, &fields, &saying, element) {
             return Err(fault_at(line, kind));
         }
-        let Ok(()) = self.add_single(&saying, fields.entry) else {
+        let Ok(()) = self.add_single(&saying, element, fields.entry) else {
             return Err(StochFault::Memory);
         };
         Ok(())

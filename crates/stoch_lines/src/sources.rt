@@ -1,4 +1,4 @@
-ghost use Rattle.std.specs.Prelude.{◌≡◌, [], not, IfOk, OnOk};
+ghost use Rattle.std.specs.Prelude.{◌≡◌, [], length, not, IfOk, OnOk};
 ghost use Rattle.std.specs.List.{list_any};
 ghost use Rattle.stoch_lines.specs.Places.{same_source};
 ghost use Rattle.stoch_lines.specs.Sayings.{element_of, with_new};
@@ -32,6 +32,13 @@ impl Sources {
         Sources {
             set: IndexSet::new(alloc),
         }
+    }
+
+    /// The number of elements.
+    pub fn len(&self) -> usize
+        ensures { result ≡ length self.now }
+    {
+        self.set.len()
     }
 
     /// The number of an element, or the next where it is new.

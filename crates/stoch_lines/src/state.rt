@@ -1,7 +1,7 @@
 ghost use Rattle.std.specs.Prelude.{◌≡◌, OnOk};
-ghost use Rattle.stoch_lines.specs.Before.{with_saying, nothing_said};
+ghost use Rattle.stoch_lines.specs.Before.{with_element, with_saying, nothing_said};
 ghost use Rattle.stoch_lines.specs.Faults.{own_period};
-ghost use Rattle.stoch_lines.specs.Sayings.{last_element};
+ghost use Rattle.stoch_lines.specs.Sayings.{element_of, last_element};
 ghost use Rattle.stoch_lines.specs.Turns.{before_in};
 
 use crate::entries::Entries;
@@ -72,11 +72,12 @@ impl State {
         }
     }
 
-    /// The period of an element: its own, or the one said where it is new.
-    pub fn own_period(&self, saying: &Saying) -> u8
+    /// The period of the element of this number: its own, or the one said where
+    /// it is new.
+    pub fn own_period(&self, saying: &Saying, element: usize) -> u8
+        requires { element ≡ element_of self.now.sources saying.now.source }
         ensures { result ≡ own_period (before_in self.now) saying.now }
     {
-        let element = self.sources.element_of(saying.source);
         match self.periods.as_slice().get(element) {
             Some(period) => *period,
             None => saying.period,
@@ -93,14 +94,25 @@ impl State {
         }
     }
 
-    /// Appends a realisation, whose element may be new.
-    pub fn add_realisation(&mut self, saying: &Saying) -> Result<(), AllocError>
-        ensures { OnOk result (before_in self.new ≡ with_saying (before_in self.old) saying.now) }
+    fn add_element(&mut self, saying: &Saying, element: usize) -> Result<(), AllocError>
+        requires { element ≡ element_of self.old.sources saying.now.source }
+        ensures { OnOk result (before_in self.new ≡ with_element (before_in self.old) saying.now) }
     {
-        let element = self.sources.element_of(saying.source);
+        if element != self.sources.len() {
+            return Ok(());
+        }
         if self.sources.add(saying.source)? {
             self.periods.push(saying.period)?;
         }
+        Ok(())
+    }
+
+    /// Appends a realisation of the element of this number, which may be new.
+    pub fn add_realisation(&mut self, saying: &Saying, element: usize) -> Result<(), AllocError>
+        requires { element ≡ element_of self.old.sources saying.now.source }
+        ensures { OnOk result (before_in self.new ≡ with_saying (before_in self.old) saying.now) }
+    {
+        self.add_element(saying, element)?;
         self.realisations.push(Chosen {
             element,
             probability: saying.probability,
