@@ -1,0 +1,6 @@
+pub mod Existing
+pub mod Fitting
+pub mod Pieces
+pub mod Places
+pub mod Spellable
+pub mod Words

@@ -1,0 +1,9 @@
+pub mod Entries
+pub mod Layouts
+pub use Rattle.base_words.specs.Gathered
+pub use Rattle.base_words.specs.Sums
+pub use Rattle.log_words.specs.Replies
+pub use Rattle.put_words.specs.Puts
+pub use Rattle.sp_model.specs.Problems
+pub use Rattle.sp_model.specs.ScenarioPoints
+pub use Rattle.word_codec.specs.Spelling

@@ -1,0 +1,13 @@
+//! The words of a run's windows: which cells of a put each rank has, the words
+//! of its part, and the meaning that ties the entries of a board to a run.
+#![tactic(auto)]
+
+mod laws;
+mod layout;
+mod parts;
+mod run_meaning;
+
+pub use laws::{puts_are_spelled, puts_are_there};
+pub use layout::{Layout, layout_of};
+pub use parts::part_word;
+pub use run_meaning::{RunMeaning, meaning};
