@@ -6,5 +6,6 @@ ghost use Rattle.bound_ledger.specs.declared.ledger.Bound.{Bound};
 /// bounds of the replies, and its upper the least of their upper bounds, or none where
 /// there is none.
 pub fn pair_law()
-    ensures { (first : ℤ) (replies : List Bound) → IsPairOf first replies (pair_after first replies) }
+    ensures { (first : ℤ) (replies : List Bound)
+        → IsPairOf first replies (pair_after first replies) }
 {}

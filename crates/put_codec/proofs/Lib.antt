@@ -1,6 +1,6 @@
-pub mod Existing
-pub mod Fitting
-pub mod Pieces
-pub mod Places
-pub mod Spellable
-pub mod Words
+mod Existing
+mod Fitting
+mod Pieces
+mod Places
+mod Spellable
+mod Words

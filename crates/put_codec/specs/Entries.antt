@@ -1,4 +1,5 @@
--- The words of the entries of a run's windows: a rank's part of each put, and a spoke's reply to it.
+-- The words of the entries of a run's windows: a rank's part of each put, and a spoke's reply to
+-- it.
 
 use Rattle.std.specs.Prelude.{◌≡◌, ◌≢◌, ℕ, ◌+◌, ◌-◌, ◌^◌, ◌<◌, ◌≤◌, nat_lt, List, [], length, FitsSigned, None, if◌then◌else◌}
 use Rattle.std.specs.Int.{w128}
@@ -29,13 +30,16 @@ pub record FitsLayout (layout : Layout) (put : Put) : Type 0 where
 
 -- the words of rank i's part of put k
 abbrev pub part_of : Run → ℕ → ℕ → List ℕ
-part_of run i k = option_map_or (λ (made : Made). part_words (layout_in run) i made.put) (put_of run k) []
+part_of run i k =
+    option_map_or (λ (made : Made). part_words (layout_in run) i made.put) (put_of run k) []
 
 -- the words of entry k of window w: of a rank's its part of put k, of a spoke's its reply to put k
 unfoldable pub entry_of : Run → ℕ → ℕ → List ℕ
-entry_of run w k = if nat_lt w run.options.ranks then part_of run w k else reply_words (reply_of run (w - run.options.ranks) k)
+entry_of run w k = if nat_lt w run.options.ranks then part_of run w k
+    else reply_words (reply_of run (w - run.options.ranks) k)
 
--- what the meaning of a run's windows keeps: their layout, and the number of the last put that the run may make; each put is there, and each entry has the width of its window
+-- what the meaning of a run's windows keeps: their layout, and the number of the last put that the
+-- run may make; each put is there, and each entry has the width of its window
 pub record MeansRun (run : Run) (layout : Layout) (most : ℕ) : Type 0 where
   pub layout_is : layout ≡ layout_in run
   pub most_is : most ≡ run.options.iterations + 1
@@ -44,12 +48,14 @@ pub record MeansRun (run : Run) (layout : Layout) (most : ℕ) : Type 0 where
   pub few : most < 2 ^ 62
   pub led : layout.ranks ≤ windows_of layout
 
--- the cells of a put can be spelled: each multiplier fits 128 bits, and each value is one that a nonleaf column may have
+-- the cells of a put can be spelled: each multiplier fits 128 bits, and each value is one that a
+-- nonleaf column may have
 pub record IsSpelled (put : Put) : Type 0 where
   pub multipliers : (c : ℕ) → FitsSigned w128 (number_at put.multipliers.values c)
   pub x : (c : ℕ) → IsValue (number_at put.x c)
 
 -- before place n a put has the cells of another
 pub record AgreeBelow (n : ℕ) (put given : Put) : Type 0 where
-  pub multipliers : (c : ℕ) → c < n → number_at put.multipliers.values c ≡ number_at given.multipliers.values c
+  pub multipliers : (c : ℕ) → c < n
+      → number_at put.multipliers.values c ≡ number_at given.multipliers.values c
   pub x : (c : ℕ) → c < n → number_at put.x c ≡ number_at given.x c

@@ -1,4 +1,5 @@
--- Where the parts of a put lie: which scenarios each rank has, and how many words each window's entries have.
+-- Where the parts of a put lie: which scenarios each rank has, and how many words each window's
+-- entries have.
 
 use Rattle.std.specs.Prelude.{ℕ, ◌+◌, ◌-◌, ◌*◌, ◌/◌, nat_lt, if◌then◌else◌}
 use Rattle.sp_model.specs.Problems.{scenarios}
@@ -7,7 +8,12 @@ use Rattle.put_codec.specs.declared.layout.Layout.{Layout}
 
 -- the layout of a run's windows
 abbrev pub layout_in : Run → Layout
-layout_in run = record { scenarios = scenarios run; nonleaf = run.nonleaf; ranks = run.options.ranks; spokes = run.options.lagrangian + run.options.xhat }
+layout_in run = record {
+  scenarios = scenarios run;
+  nonleaf = run.nonleaf;
+  ranks = run.options.ranks;
+  spokes = run.options.lagrangian + run.options.xhat;
+}
 
 -- how many windows there are: the ranks' and behind them the spokes'
 abbrev pub windows_of : Layout → ℕ
@@ -17,7 +23,8 @@ windows_of layout = layout.ranks + layout.spokes
 abbrev pub first_of : Layout → ℕ → ℕ
 first_of layout i = i * layout.scenarios / layout.ranks
 
--- a put has a cell for each scenario and nonleaf column, scenario after scenario: the place of rank i's first one
+-- a put has a cell for each scenario and nonleaf column, scenario after scenario: the place of rank
+-- i's first one
 abbrev pub start_of : Layout → ℕ → ℕ
 start_of layout i = first_of layout i * layout.nonleaf
 
