@@ -80,8 +80,10 @@ cells_of (c ∷ cs) = cell_of c ++ cells_of cs
 abbrev pub with_change : Data → Change → Data
 with_change d (change.Cost column value) = record d { costs = slice_set d.costs column value }
 with_change d (change.Cell row column value) =
-    record d { entries = put_entry (record { row = row; column = column; value = value })
-        d.entries }
+    record d {
+      entries = put_entry (record { row = row; column = column; value = value })
+          d.entries;
+    }
 with_change d (change.Limits row lower upper) =
     record d { limits = slice_set d.limits row (record { lower = lower; upper = upper }) }
 

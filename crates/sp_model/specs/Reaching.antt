@@ -27,7 +27,7 @@ cost_reach program j =
 abbrev pub data_reach : Program → Data → ℕ
 data_reach program d =
     greatest (map (row_size (sides program) d.limits d.entries)
-        (range_with_len 0 (length d.limits)))
+    (range_with_len 0 (length d.limits)))
 
 -- the greatest row of the core and of all scenarios
 abbrev pub rows_reach : Program → ℕ
@@ -45,7 +45,7 @@ line_reach program options total =
 abbrev pub step_reach : Program → Options → ℤ → ℕ → ℕ
 step_reach program options total j =
     2 * unsigned_abs options.rho * unsigned_abs total * box_reach program j
-        + length program.scenarios
+    + length program.scenarios
 
 -- the greatest magnitude of a multiplier of a column
 abbrev pub most_of : Program → Options → ℤ → ℕ → ℕ
