@@ -1,4 +1,4 @@
-ghost use Rattle.std.specs.Prelude.{◌≡◌, [], ◌∷◌, ◌++◌, ◌-◌, ◌<◌, ◌≤◌, ◌^◌, length, slice_index_or, slice_set, IfOk, OnOk};
+ghost use Rattle.std.specs.Prelude.{◌≡◌, [], ◌∷◌, ◌++◌, ◌-◌, ◌<◌, ◌≤◌, ◌^◌, length, slice_index_or, slice_set, IfErr, IfOk, OnOk};
 ghost use Rattle.std.specs.List.{All};
 ghost use Rattle.tree_core.specs.Marks.{groups, mark_of};
 
@@ -45,8 +45,9 @@ pub fn groups_at(
     requires few { length owners.now < 2 ^ 32 }
     requires marked { All (λ marks. stage ≤ length marks) owners.now }
     requires counted { 1 ≤ stage }
-    ensures { IfOk result
+    ensures groups { IfOk result
         (λ made. made.items ≡ groups (mark_of owners.now stage) (length owners.now)) }
+    ensures asked { IfErr result (λ refused. 0 < length owners.now) }
 {
     let mut places: HashMap<u32, usize> = HashMap::new(alloc);
     let mut groups: Vec<List<u32>> = Vec::new(alloc);

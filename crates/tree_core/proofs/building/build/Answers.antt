@@ -7,8 +7,8 @@ use Rattle.tree_core.proofs.building.build.Goals as goal
 pub loop-before-preserved : goal.loop-before-preserved
 loop-before-preserved c =
     let stage = c.loop-before.before + 1 in
-    c.in_ok-append.ensures
-    ∙ ap (λ gs. c.loop-before.nodes ++ map (node stage) gs) c.in_ok-groups.ensures
+    c.in_ok-append.ensures.nodes
+    ∙ ap (λ gs. c.loop-before.nodes ++ map (node stage) gs) c.in_ok-groups.ensures.groups
     ∙ ap (λ ns. ns ++ nodes_at c.args.owners.now stage) c.loop-before.invariant
     ∙ sym (stage_next (nodes_at c.args.owners.now) c.loop-before.before)
 
