@@ -1,5 +1,6 @@
 ghost use Rattle.std.specs.Prelude.{◌≡◌, ◌≤◌, IfOk};
-ghost use Rattle.plain_board.specs.Plain.{fresh_board, selected, LeavesAll};
+ghost use Rattle.plain_board.specs.Plain.{fresh_board, selected, state, LeavesAll};
+ghost use Rattle.window_words.specs.Rule.{Windows};
 
 use crate::fresh::{Sizes, fresh_seats, places_of, zeros};
 use crate::seat::PlainSeat;
@@ -67,6 +68,17 @@ impl<M: Meaning> PlainBoard<M> {
         ensures { self.new ≡ (self.old.0, self.old.1, self.old.2, seat) }
     {
         self.at = seat;
+    }
+
+    /// The rule of the windows holds between any two calls: an even stamp says that its
+    /// entry stands whole, what a seat has accepted of a window its owner has closed, and
+    /// no follower's window is ahead of a leader's. It does nothing.
+    pub fn rule(&self)
+        ensures { Windows (M.entry self.now.0) (M.wide self.now.0) (M.count self.now.0)
+            (M.lead self.now.0) (M.last self.now.0) self.now.0
+            (state self.now.0 self.now.1 self.now.2) }
+    {
+        let _at = self.at;
     }
 }
 
