@@ -8,7 +8,7 @@ use Rattle.boxed_problem.specs.Objective.{value_of}
 use Rattle.boxed_problem.specs.Optimum.{Feasible, IsBest, best_of}
 use Rattle.boxed_problem.specs.Sides.{Filled}
 use Rattle.boxed_problem.specs.declared.parts.Best.{Best}
-use Rattle.boxed_problem.proofs.Magnitudes.{value_abs}
+use Rattle.boxed_problem.proofs.Magnitudes.{objective_abs}
 use Rattle.boxed_problem.proofs.Optimal.{best_is}
 use Rattle.sp_model.specs.Problems.{least_of}
 
@@ -20,7 +20,7 @@ least_abs p v filled e = by_best (best_of p) (best_is p (best_of p) filled refl)
     by_best None h d = absurd (let y = d in cc)
     by_best (Some best) h d =
         let same : best.value ≡ v = cc in
-        omega (arith, ap unsigned_abs (sym same ∙ h.value), value_abs p best.point h.feasible.inside)
+        omega (arith, ap unsigned_abs (sym same ∙ h.value), objective_abs p best.point h.feasible.inside)
 
 -- where there is a least value, there is a feasible point
 pub least_point : (p : Problem) (v : ℤ) → Filled p.columns → least_of p ≡ Some v → (x : List ℤ) × Feasible p x
