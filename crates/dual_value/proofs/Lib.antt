@@ -1,1 +1,2 @@
 mod PricedSums
+mod Existing

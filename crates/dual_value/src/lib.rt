@@ -2,7 +2,9 @@
 //! with their multipliers as prices.
 #![tactic(auto)]
 
+mod laws;
 mod pricing;
 mod summing;
 
+pub use laws::points_make_duals;
 pub use summing::{DualFault, dual};
