@@ -21,8 +21,8 @@ use Rattle.sp_model.proofs.Bounds.{total_abs}
 use Rattle.put_words.specs.Hedged.{pull}
 use Rattle.put_words.specs.NextMultipliers.{front_of, move_in, rise}
 use Rattle.put_words.specs.NodeSums.{AreInside, sum_of, value_at, weight_at, weight_of}
-use Rattle.put_words.proofs.Pulls.{pull_abs, pull_numerator_abs, raw_room, size_le}
-use Rattle.put_words.proofs.Rises.{move_abs, numerator_abs, rises_abs, weight_above, weight_most}
+use Rattle.put_words.proofs.Pulls.{pull_abs, pull_numerator_abs, raw_room, size_le, twice_abs}
+use Rattle.put_words.proofs.Rises.{move_abs, numerator_abs, rises_abs, weight_above, weight_most, regroup_step}
 use Rattle.put_words.proofs.Signed.{abs_less, abs_opposite}
 use Rattle.sp_model.proofs.LeastSums.{weight_size}
 use Rattle.put_words.proofs.Weights.{node_sum_abs, part_abs, value_abs, weight_sum}
@@ -120,16 +120,13 @@ numerator_fits run x n s j inside l below h =
     let ns = scenarios_at run.program.tree.nodes n in
     fits_from_abs ((run.options.rho *ℤ weight_at run s) *ℤ ((weight_of run ns *ℤ value_at run x s j) -ℤ sum_of run x ns j)) (omega (arith, numerator_abs run x ns j s inside (node_members run n l).there below h, raw_small run n s j l below h))
 
-unit_is : (w r m : ℕ) → w * (2 * r * m) ≡ 2 * r * w * m
-unit_is w r m = grind arith
-
 pub rises_small : (run : Run) (x : List ℤ) (n j k : ℕ) → AreInside run x → n < length run.program.tree.nodes → j < run.nonleaf → unsigned_abs (sum_z (rise run x (scenarios_at run.program.tree.nodes n) j) (take k (scenarios_at run.program.tree.nodes n))) ≤ 2 ^ 121
 rises_small run x n j k inside l h =
     let ns = scenarios_at run.program.tree.nodes n in
     let members = node_members run n l in
     let unit = 2 * unsigned_abs run.options.rho * box_reach run.program j in
     let same : unit ≤ unit = omega arith in
-    omega (arith, rises_abs run x ns j k inside members.there (node_filled run n l) h, mul-le-mul (front_weight run ns k members) same, unit_is (unsigned_abs run.total) (unsigned_abs run.options.rho) (box_reach run.program j), part_small run j (early_column run j h))
+    omega (arith, rises_abs run x ns j k inside members.there (node_filled run n l) h, mul-le-mul (front_weight run ns k members) same, regroup_step (unsigned_abs run.total) (unsigned_abs run.options.rho) (box_reach run.program j), part_small run j (early_column run j h))
 
 pub rises_fit : (run : Run) (x : List ℤ) (n j k : ℕ) → AreInside run x → n < length run.program.tree.nodes → j < run.nonleaf → FitsSigned w128 (sum_z (rise run x (scenarios_at run.program.tree.nodes n) j) (take k (scenarios_at run.program.tree.nodes n)))
 rises_fit run x n j k inside l h = fits_from_abs (sum_z (rise run x (scenarios_at run.program.tree.nodes n) j) (take k (scenarios_at run.program.tree.nodes n))) (omega (arith, rises_small run x n j k inside l h))
@@ -155,14 +152,11 @@ pub pull_small : (run : Run) (x : List ℤ) (s j : ℕ) → AreInside run x → 
 pull_small run x s j inside l h =
     let unit = 2 * unsigned_abs run.options.rho * box_reach run.program j in
     let same : unit ≤ unit = omega arith in
-    omega (arith, pull_abs run x s j inside l h, mul-le-mul (size_le run s l) same, unit_is (unsigned_abs run.total) (unsigned_abs run.options.rho) (box_reach run.program j), part_small run j (early_column run j h))
+    omega (arith, pull_abs run x s j inside l h, mul-le-mul (size_le run s l) same, regroup_step (unsigned_abs run.total) (unsigned_abs run.options.rho) (box_reach run.program j), part_small run j (early_column run j h))
 
 -- a cost with a multiplier
 pub priced_small : (run : Run) (multipliers : Multipliers) (s j : ℕ) (cost : ℤ) → AreSized run multipliers → s < scenarios run → j < run.nonleaf → unsigned_abs cost ≤ 2 ^ 122 → unsigned_abs (cost +ℤ multiplier_of run multipliers s j) ≤ 2 ^ 122 + 2 ^ 120
 priced_small run multipliers s j cost sized l h small = omega (arith, abs-add cost (multiplier_of run multipliers s j), sized s j l h, most_small run j h, small)
-
-twice_abs : (a : ℤ) → unsigned_abs (pos 2 *ℤ a) ≡ 2 * unsigned_abs a
-twice_abs a = unsigned_abs-mul (pos 2) a
 
 -- the linear part of a nonleaf column
 pub early_fits : (run : Run) (multipliers : Multipliers) (x : List ℤ) (s j : ℕ) (cost : ℤ) → AreSized run multipliers → AreInside run x → s < scenarios run → j < run.nonleaf → unsigned_abs cost ≤ 2 ^ 122 →

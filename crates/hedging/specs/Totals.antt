@@ -3,9 +3,10 @@
 use Rattle.std.specs.Prelude.{◌≡◌, ℕ, ◌<◌, nat_lt, List, length, map, ℤ, if◌then◌else◌}
 use Rattle.std.specs.List.{range_with_len}
 use Rattle.tree_core.specs.declared.tree.Node.{Node}
-use Rattle.run_calls.specs.MultiplierTests.{node_at}
+use Rattle.run_calls.specs.MultiplierTests.{AreLong, AreSized, node_at}
+use Rattle.sp_model.specs.declared.plan.Multipliers.{Multipliers}
 use Rattle.sp_model.specs.declared.run.Run.{Run}
-use Rattle.put_words.specs.NodeSums.{sum_of, weight_of}
+use Rattle.put_words.specs.NodeSums.{AreInside, sum_of, weight_of}
 use Rattle.hedging.specs.declared.totals.Totals.{Totals}
 
 -- a node before the leaf stage
@@ -28,3 +29,11 @@ pub record AreTotals (run : Run) (x : List ℤ) (totals : Totals) : Type 0 where
       (range_with_len 0 (length run.program.tree.nodes))
   pub sums : totals.sums ≡ map (λ n. node_sums run x (node_at run n))
       (range_with_len 0 (length run.program.tree.nodes))
+
+-- what a put's next multipliers and hedged problems are made of: multipliers of the run that are
+-- small enough, values in the boxes of their columns, and what the nodes sum up of those
+pub record IsReady (run : Run) (multipliers : Multipliers) (x : List ℤ) (totals : Totals) : Type 0 where
+  pub long : AreLong run multipliers
+  pub sized : AreSized run multipliers
+  pub inside : AreInside run x
+  pub totals : AreTotals run x totals

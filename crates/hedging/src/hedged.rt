@@ -3,10 +3,9 @@ ghost use Rattle.std.specs.List.{range_with_len};
 ghost use Rattle.base_words.specs.Sums.{number_at};
 ghost use Rattle.boxed_problem.specs.Data.{problem_of};
 ghost use Rattle.hedging.specs.Bundles.{nodes_for};
-ghost use Rattle.hedging.specs.Totals.{AreTotals, IsInner};
+ghost use Rattle.hedging.specs.Totals.{AreTotals, IsInner, IsReady};
 ghost use Rattle.put_words.specs.Hedged.{hedged_in, hedged_line, hedged_square, pull};
 ghost use Rattle.put_words.specs.NodeSums.{AreInside, node_for};
-ghost use Rattle.run_calls.specs.MultiplierTests.{AreLong, AreSized};
 ghost use Rattle.sp_model.specs.Plans.{multiplier_of};
 ghost use Rattle.sp_model.specs.Problems.{problem_in, scenarios};
 
@@ -14,7 +13,7 @@ use crate::bundles::{node_for, nodes_for};
 use crate::moving::rate;
 use crate::totals::Totals;
 use boxed_problem::Boxed;
-use put_words::{minus, plus, quotient, times, with_objective};
+use put_words::{minus, plus, times, with_objective};
 use run_calls::multiplier;
 use sp_model::{Multipliers, Run};
 use std::alloc::{AllocError, Global};
@@ -39,7 +38,7 @@ fn pull(run: &Run, x: &List<i64>, totals: &Totals, node: u32, scenario: u32, col
     ensures { result ≡ pull run.now x.now scenario column }
 {
     let product = times(twice(rate(run, scenario)), totals.sum(run, x, node, column));
-    quotient(product, totals.weight(run, x, node))
+    totals.share(run, x, node, product)
 }
 
 // The linear part of a nonleaf column: twice its cost and its multiplier, less
@@ -54,10 +53,7 @@ fn early_cost(
     column: u32,
     cost: i128,
 ) -> i128
-    requires long { AreLong run.now multipliers.now }
-    requires sized { AreSized run.now multipliers.now }
-    requires inside { AreInside run.now x.now }
-    requires totals { AreTotals run.now x.now totals.now }
+    requires ready { IsReady run.now multipliers.now x.now totals.now }
     requires nodes { nodes.now ≡ nodes_for run.now scenario }
     requires scenario { scenario < scenarios run.now }
     requires column { column < run.now.nonleaf }
@@ -82,10 +78,7 @@ fn hedged_cost(
     column: u32,
     cost: i128,
 ) -> i128
-    requires long { AreLong run.now multipliers.now }
-    requires sized { AreSized run.now multipliers.now }
-    requires inside { AreInside run.now x.now }
-    requires totals { AreTotals run.now x.now totals.now }
+    requires ready { IsReady run.now multipliers.now x.now totals.now }
     requires nodes { nodes.now ≡ nodes_for run.now scenario }
     requires scenario { scenario < scenarios run.now }
     requires cost { cost ≡ number_at (problem_in run.now scenario).line column }
@@ -109,10 +102,7 @@ fn hedged_costs(
     scenario: u32,
     costs: &[i128],
 ) -> Result<List<i128>, AllocError>
-    requires long { AreLong run.now multipliers.now }
-    requires sized { AreSized run.now multipliers.now }
-    requires inside { AreInside run.now x.now }
-    requires totals { AreTotals run.now x.now totals.now }
+    requires ready { IsReady run.now multipliers.now x.now totals.now }
     requires scenario { scenario < scenarios run.now }
     requires costs { costs.now ≡ (problem_in run.now scenario).line }
     ensures { IfOk result
@@ -175,10 +165,7 @@ pub fn hedged(
     totals: &Totals,
     scenario: u32,
 ) -> Result<Boxed, AllocError>
-    requires long { AreLong run.now multipliers.now }
-    requires sized { AreSized run.now multipliers.now }
-    requires inside { AreInside run.now x.now }
-    requires totals { AreTotals run.now x.now totals.now }
+    requires ready { IsReady run.now multipliers.now x.now totals.now }
     requires scenario { scenario < scenarios run.now }
     ensures { IfOk result
         (λ problem. problem_of problem ≡ hedged_in run.now multipliers.now x.now scenario) }

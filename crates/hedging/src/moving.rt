@@ -2,16 +2,15 @@ ghost use Rattle.std.specs.Prelude.{◌≡◌, ◌+◌, ◌*◌, ◌-◌, ◌<�
 ghost use Rattle.std.specs.List.{range_with_len};
 ghost use Rattle.base_words.specs.ListSums.{sum_z};
 ghost use Rattle.hedging.specs.Bundles.{nodes_for};
-ghost use Rattle.hedging.specs.Totals.{AreTotals, IsInner};
+ghost use Rattle.hedging.specs.Totals.{AreTotals, IsInner, IsReady};
 ghost use Rattle.put_words.specs.NextMultipliers.{front_of, last_of, move_in, moved, next_of, no_multipliers, rise};
 ghost use Rattle.put_words.specs.NodeSums.{AreInside, node_for, sum_of, value_at, weight_at, weight_of};
-ghost use Rattle.run_calls.specs.MultiplierTests.{AreLong, AreSized};
 ghost use Rattle.sp_model.specs.Problems.{scenarios};
 ghost use Rattle.tree_core.specs.Nodes.{scenarios_at};
 
 use crate::bundles::{node_for, nodes_for};
 use crate::totals::{Totals, members, weight, wide_value};
-use put_words::{minus, opposite, plus, quotient, times};
+use put_words::{minus, opposite, plus, times};
 use run_calls::multiplier;
 use sp_model::{Multipliers, Run};
 use std::alloc::{AllocError, Global};
@@ -60,7 +59,7 @@ fn rise(run: &Run, x: &List<i64>, totals: &Totals, node: u32, scenario: u32, col
         rate(run, scenario),
         apart(run, x, totals, node, scenario, column),
     );
-    quotient(product, totals.weight(run, x, node))
+    totals.share(run, x, node, product)
 }
 
 // The sum of the rises of all scenarios of a node but the last.
@@ -117,10 +116,7 @@ fn moved(
     scenario: u32,
     column: u32,
 ) -> i128
-    requires long { AreLong run.now multipliers.now }
-    requires sized { AreSized run.now multipliers.now }
-    requires inside { AreInside run.now x.now }
-    requires totals { AreTotals run.now x.now totals.now }
+    requires ready { IsReady run.now multipliers.now x.now totals.now }
     requires nodes { nodes.now ≡ nodes_for run.now scenario }
     requires scenario { scenario < scenarios run.now }
     requires column { column < run.now.nonleaf }
@@ -143,10 +139,7 @@ fn push_moved(
     scenario: u32,
     values: &mut List<i128>,
 ) -> Result<(), AllocError>
-    requires long { AreLong run.now multipliers.now }
-    requires sized { AreSized run.now multipliers.now }
-    requires inside { AreInside run.now x.now }
-    requires totals { AreTotals run.now x.now totals.now }
+    requires ready { IsReady run.now multipliers.now x.now totals.now }
     requires scenario { scenario < scenarios run.now }
     ensures { OnOk result
         (values.new
@@ -177,10 +170,7 @@ pub fn next_multipliers(
     x: &List<i64>,
     totals: &Totals,
 ) -> Result<Multipliers, AllocError>
-    requires long { AreLong run.now multipliers.now }
-    requires sized { AreSized run.now multipliers.now }
-    requires inside { AreInside run.now x.now }
-    requires totals { AreTotals run.now x.now totals.now }
+    requires { IsReady run.now multipliers.now x.now totals.now }
     ensures { IfOk result (λ next. next ≡ next_of run.now multipliers.now x.now) }
 {
     let mut values = List::new(alloc);

@@ -1,12 +1,13 @@
 ghost use Rattle.std.specs.Prelude.{◌≡◌, ◌+◌, ◌*◌, ◌<◌, ℤ, ◌*ℤ◌, [], length, map, slice_index_or, IfOk};
 ghost use Rattle.std.specs.List.{range_with_len};
 ghost use Rattle.hedging.specs.Totals.{AreTotals, IsInner, node_sums, node_width};
+ghost use Rattle.put_words.specs.NextMultipliers.{rounded_down};
 ghost use Rattle.put_words.specs.NodeSums.{AreInside, sum_of, value_at, weight_at, weight_of};
 ghost use Rattle.run_calls.specs.MultiplierTests.{AreMembers, node_at};
 ghost use Rattle.sp_model.specs.Problems.{scenarios};
 ghost use Rattle.tree_core.specs.Nodes.{scenarios_at};
 
-use put_words::{plus, times};
+use put_words::{plus, quotient, times};
 use sp_model::Run;
 use std::alloc::{AllocError, Global};
 use wide_num::List;
@@ -177,6 +178,16 @@ impl Totals {
         ensures { result ≡ weight_of run.now (scenarios_at run.now.program.tree.nodes node) }
     {
         self.weights.as_slice()[node as usize]
+    }
+
+    // A number over the weight of a node, rounded down.
+    pub fn share(&self, run: &Run, x: &List<i64>, node: u32, number: i128) -> i128
+        requires totals { AreTotals run.now x.now self.now }
+        requires node { node < length run.now.program.tree.nodes }
+        ensures { result
+            ≡ rounded_down number (weight_of run.now (scenarios_at run.now.program.tree.nodes node)) }
+    {
+        quotient(number, self.weight(run, x, node))
     }
 
     // The weighted sums of a node.

@@ -64,7 +64,7 @@ size_le run s l = omega (arith, size_below-part (scenarios run) (weight_size run
 pull_is : (r w u m : ℕ) → (2 * (r * w)) * (u * m) ≡ u * (w * (2 * r * m))
 pull_is r w u m = grind arith
 
-twice_abs : (a : ℤ) → unsigned_abs (pos 2 *ℤ a) ≡ 2 * unsigned_abs a
+pub twice_abs : (a : ℤ) → unsigned_abs (pos 2 *ℤ a) ≡ 2 * unsigned_abs a
 twice_abs a = unsigned_abs-mul (pos 2) a
 
 -- the numerator of a pull

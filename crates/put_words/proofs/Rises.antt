@@ -93,7 +93,7 @@ rises_abs run x ns j k inside below some h =
 pub weight_most : (run : Run) (ns : List ℕ) → AllPairs (λ s u. s < u) ns → All (λ u. u < scenarios run) ns → sum_by (weight_size run) ns ≤ unsigned_abs run.total
 weight_most run ns pairs below = omega (arith, members_le (weight_size run) (scenarios run) ns pairs below, total_abs_is run)
 
-regroup_step : (w r m : ℕ) → w * (2 * r * m) ≡ 2 * r * w * m
+pub regroup_step : (w r m : ℕ) → w * (2 * r * m) ≡ 2 * r * w * m
 regroup_step w r m = grind arith
 
 -- the scenarios of a node

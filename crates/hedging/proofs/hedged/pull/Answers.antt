@@ -1,10 +1,10 @@
-use Rattle.std.proofs.Common.{rules, arith, ap, ◌∙◌, ◌≡◌, ◌≤◌, ◌^◌, pos, ◌*ℤ◌, ◌<ℤ◌, unsigned_abs, FitsSigned}
+use Rattle.std.proofs.Common.{rules, arith, ap, ◌∙◌, ◌≡◌, ◌≤◌, ◌^◌, pos, ◌*ℤ◌, unsigned_abs, FitsSigned}
 use Rattle.std.proofs.lemmas.Int.{to_z-of_z}
 use Rattle.std.specs.Int.{w128}
 use Rattle.tree_core.specs.Nodes.{scenarios_at}
 use Rattle.put_words.specs.NextMultipliers.{rounded_down}
 use Rattle.put_words.specs.NodeSums.{sum_of, weight_at, weight_of}
-use Rattle.hedging.proofs.Fitting.{pull_fits, rate_small, weight_positive}
+use Rattle.hedging.proofs.Fitting.{pull_fits, rate_small}
 use Rattle.hedging.proofs.hedged.pull.Goals as goal
 
 pub twice-requires : goal.twice-requires
@@ -24,12 +24,6 @@ times-product-requires c =
     let h : FitsSigned w128 (c.twice.result *ℤ c.sum.result) = rw (double, c.rate.ensures, c.sum.ensures) (pull_fits c.args.run.now c.args.x.now c.args.node c.args.scenario c.args.column c.requires.inside c.requires.node.there c.requires.scenario c.requires.column) in
     simp to_z-of_z h
 
-pub quotient-requires : goal.quotient-requires
-quotient-requires c =
-    let fw : FitsSigned w128 c.weight.result = search rules in
-    let h : pos 0 <ℤ c.weight.result = rw c.weight.ensures (weight_positive c.args.run.now c.args.node c.requires.node.there) in
-    simp to_z-of_z h
-
 pub returns : goal.returns
 returns c =
     let run = c.args.run.now in
@@ -41,17 +35,15 @@ returns c =
     let ft : FitsSigned w128 c.twice.result = search rules in
     let fs : FitsSigned w128 c.sum.result = search rules in
     let fp : FitsSigned w128 c.times-product.result = search rules in
-    let fw : FitsSigned w128 c.weight.result = search rules in
-    let fq : FitsSigned w128 c.quotient.result = search rules in
+    let fq : FitsSigned w128 c.share.result = search rules in
     let double : c.twice.result ≡ (pos 2 *ℤ c.rate.result) = simp to_z-of_z at c.twice.ensures in
     let product : c.times-product.result ≡ (c.twice.result *ℤ c.sum.result) = simp to_z-of_z at c.times-product.ensures in
-    let quotient : c.quotient.result ≡ rounded_down c.times-product.result c.weight.result = simp to_z-of_z at c.quotient.ensures in
+    let share : c.share.result ≡ rounded_down c.times-product.result (weight_of run (scenarios_at nodes c.args.node)) = simp to_z-of_z at c.share.ensures in
     let numerator : c.times-product.result ≡ ((pos 2 *ℤ rate) *ℤ sum_of run x (scenarios_at nodes c.args.node) j) =
     product
     ∙ ap (λ z. z *ℤ c.sum.result) (double ∙ ap (λ z. pos 2 *ℤ z) c.rate.ensures)
     ∙ ap (λ z. (pos 2 *ℤ rate) *ℤ z) c.sum.ensures in
     simp to_z-of_z
-    (quotient
-    ∙ ap (λ z. rounded_down z c.weight.result) numerator
-    ∙ ap (λ z. rounded_down ((pos 2 *ℤ rate) *ℤ sum_of run x (scenarios_at nodes c.args.node) j) z) c.weight.ensures
+    (share
+    ∙ ap (λ z. rounded_down z (weight_of run (scenarios_at nodes c.args.node))) numerator
     ∙ ap (λ n. rounded_down ((pos 2 *ℤ rate) *ℤ sum_of run x (scenarios_at nodes n) j) (weight_of run (scenarios_at nodes n))) c.requires.is)

@@ -1,7 +1,7 @@
-use Rattle.std.proofs.Common.{rules, pos, ◌*ℤ◌, ◌<ℤ◌, FitsSigned}
+use Rattle.std.proofs.Common.{rules, ◌*ℤ◌, FitsSigned}
 use Rattle.std.proofs.lemmas.Int.{to_z-of_z}
 use Rattle.std.specs.Int.{w128}
-use Rattle.hedging.proofs.Fitting.{numerator_fits, weight_positive}
+use Rattle.hedging.proofs.Fitting.{numerator_fits}
 use Rattle.hedging.proofs.moving.rise.Goals as goal
 
 pub times-product-requires : goal.times-product-requires
@@ -9,10 +9,4 @@ times-product-requires c =
     let fr : FitsSigned w128 c.rate.result = search rules in
     let fa : FitsSigned w128 c.apart.result = search rules in
     let h : FitsSigned w128 (c.rate.result *ℤ c.apart.result) = rw (c.rate.ensures, c.apart.ensures) (numerator_fits c.args.run.now c.args.x.now c.args.node c.args.scenario c.args.column c.requires.inside c.requires.node.there c.requires.scenario c.requires.column) in
-    simp to_z-of_z h
-
-pub quotient-requires : goal.quotient-requires
-quotient-requires c =
-    let fw : FitsSigned w128 c.weight.result = search rules in
-    let h : pos 0 <ℤ c.weight.result = rw c.weight.ensures (weight_positive c.args.run.now c.args.node c.requires.node.there) in
     simp to_z-of_z h

@@ -2,6 +2,14 @@ use Rattle.boxed_problem.specs.Data.{problem_of}
 use Rattle.hedging.proofs.Solvable.{no_infeasible}
 use Rattle.hedging.proofs.solving.hedged_best.Goals as goal
 
+pub hedged-requires-clause-ready : goal.hedged-requires-clause-ready
+hedged-requires-clause-ready c = record {
+  long = c.requires.long;
+  sized = c.requires.sized;
+  inside = c.requires.inside;
+  totals = c.requires.totals;
+}
+
 pub unreachable-requires : goal.unreachable-requires
 unreachable-requires c =
     let run = c.args.run.now in
