@@ -24,7 +24,7 @@ section_more lines line = fold-append (λ (last : Option Heading) (l : TextLine)
 begun_more : (lines : List TextLine) (line : TextLine) → begun_of (lines ++ line ∷ []) ≡ (if opens_or_ends line then not line.header else begun_of lines)
 begun_more lines line = fold-append (λ (last : Bool) (l : TextLine). if opens_or_ends l then not l.header else last) false lines (line ∷ [])
 
-blocks_more : (lines : List TextLine) (line : TextLine) → blocks_of (lines ++ line ∷ []) ≡ fold with_name (blocks_of lines) (block_names_in (section_of lines) line)
+pub blocks_more : (lines : List TextLine) (line : TextLine) → blocks_of (lines ++ line ∷ []) ≡ fold with_name (blocks_of lines) (block_names_in (section_of lines) line)
 blocks_more lines line =
     let tells = λ (before : List TextLine) (l : TextLine). block_names_in (section_of before) l in
     ap (fold with_name []) (told_push tells lines line)

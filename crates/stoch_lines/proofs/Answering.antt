@@ -24,9 +24,9 @@ use Rattle.stoch_lines.proofs.Adding.{stepped_is}
 
 module _ (core : Core) (periods : Periods) where
   -- a fault of a line is that of the file, where the lines before it have none
-  pub refused : (bytes : List ℕ) (lines : List Line) (i : ℕ) (line : Line) (before : Before) (fault : StochFault) → i < length lines → line ≡ get_or lines i line → stepped_from core periods before (text_lines bytes (drop i lines)) ≡ stepped core periods (text_lines bytes lines) → Refuses fault (line_fault core periods before (text_line bytes line)) (text_line bytes line) → Fails (AreSome lines) fault (stepped_meaning core periods bytes lines)
-  refused bytes lines i line before Memory lt at rest refuses = omega (arith, lt)
-  refused bytes lines i line before (At number kind) lt at rest refuses =
+  pub refused : (bytes : List ℕ) (lines : List Line) (i : ℕ) (line : Line) (before : Before) (fault : StochFault) (same : Type 0) → i < length lines → line ≡ get_or lines i line → stepped_from core periods before (text_lines bytes (drop i lines)) ≡ stepped core periods (text_lines bytes lines) → Refuses fault (line_fault core periods before (text_line bytes line)) (text_line bytes line) same → Fails (AreSome lines) fault (stepped_meaning core periods bytes lines)
+  refused bytes lines i line before Memory same lt at rest refuses = omega (arith, lt)
+  refused bytes lines i line before (At number kind) same lt at rest refuses =
       let text = text_line bytes line in
       let later = drop (i + 1) lines in
       let one : stepped_from core periods before (text_lines bytes (drop i lines)) ≡ Faulty text kind =

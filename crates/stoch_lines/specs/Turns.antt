@@ -35,32 +35,35 @@ before_in state = record {
   names = state.names;
 }
 
--- an error tells this fault at this line; memory is wanting only for a line without a fault
-abbrev pub Refuses : StochFault → Option StochKind → TextLine → Type 0
-Refuses faults.Memory fault line = fault ≡ None
-Refuses (faults.At number kind) fault line = (number ≡ line.number) × (fault ≡ Some kind)
+-- an error tells this fault at this line, and then this stays the same; memory is wanting only for a
+-- line without a fault
+abbrev pub Refuses : StochFault → Option StochKind → TextLine → Type 0 → Type 0
+Refuses faults.Memory fault line same = fault ≡ None
+Refuses (faults.At number kind) fault line same =
+    (number ≡ line.number) × (fault ≡ Some kind) × same
 
 -- a step tells the line's fault, and where there is none it makes the state such
 abbrev pub Turns : {X : Type 0} → Option StochKind → TextLine → Result X StochFault → Type 0
-    → Type 0
-Turns fault line (Ok x) after = (fault ≡ None) × after
-Turns fault line (Err e) after = Refuses e fault line
+    → Type 0 → Type 0
+Turns fault line (Ok x) same after = (fault ≡ None) × after
+Turns fault line (Err e) same after = Refuses e fault line same
 
--- a line of data tells its fault by the lines before, and where there is none the state shows what
--- it adds
+-- a line of data tells its fault by the lines before, and then the state shows what it showed; where
+-- there is none it shows what the line adds
 abbrev pub Adds : Core → Periods → (Before → TextLine → Option StochKind) → State → FileLine
     → Result (Unit {0}) StochFault → State → Type 0
 Adds core periods fault old line result new =
+    let b = before_in old in
     let text = text_of line in
-    Turns (fault (before_in old) text) text result
-    (before_in new ≡ added core periods (before_in old) text)
+    Turns (fault b text) text result (before_in new ≡ b) (before_in new ≡ added core periods b text)
 
 -- a whole step tells whether the line ends the file besides
 abbrev pub Steps : Core → Periods → Before → TextLine → Result Bool StochFault → Before → Type 0
 Steps core periods b line (Ok ended) after =
     (line_fault core periods b line ≡ None) × (ended ≡ is_end line)
     × (after ≡ next core periods b line)
-Steps core periods b line (Err e) after = Refuses e (line_fault core periods b line) line
+Steps core periods b line (Err e) after =
+    Refuses e (line_fault core periods b line) line (after ≡ b)
 
 -- a scenario that a line begins has a new name, and there is room for it
 abbrev pub IsNewScenario : Periods → Before → TextLine → ScenarioHead → Type 0
