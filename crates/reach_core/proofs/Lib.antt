@@ -1,6 +1,6 @@
-mod Balance
+pub mod Balance
 mod Capped
-mod Finding
+pub mod Finding
 mod ScenarioSums
 pub mod Within
 mod Costs

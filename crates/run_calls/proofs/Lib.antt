@@ -1,4 +1,4 @@
 pub mod MemberSums
 pub mod MostBounds
 mod MultiplierFaults
-mod NumberedAnswers
+pub mod NumberedAnswers

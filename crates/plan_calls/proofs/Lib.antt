@@ -1,0 +1,5 @@
+mod LookingUp
+mod EntryMoves
+mod ActivityBounds
+mod PlanValues
+mod PlanFailures

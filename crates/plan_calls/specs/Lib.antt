@@ -1,0 +1,17 @@
+pub mod LookUps
+pub mod Moves
+pub mod PlanTests
+pub use Rattle.base_words.specs.FirstAnswers
+pub use Rattle.base_words.specs.ListSums
+pub use Rattle.base_words.specs.Sums
+pub use Rattle.boxed_problem.specs.BoxedFacts
+pub use Rattle.boxed_problem.specs.Objective
+pub use Rattle.boxed_problem.specs.Points
+pub use Rattle.boxed_problem.specs.Rows
+pub use Rattle.boxed_problem.specs.Sides
+pub use Rattle.run_calls.specs.MultiplierTests
+pub use Rattle.sp_model.specs.Changes
+pub use Rattle.sp_model.specs.Plans
+pub use Rattle.sp_model.specs.Problems
+pub use Rattle.sp_model.specs.Values
+pub use Rattle.tree_core.specs.Nodes
