@@ -1,6 +1,6 @@
 mod Existing
-mod Fitting
-mod Pieces
-mod Places
-mod Spellable
+pub mod Fitting
+pub mod Pieces
+pub mod Places
+pub mod Spellable
 mod Words

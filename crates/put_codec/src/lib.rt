@@ -8,6 +8,6 @@ mod parts;
 mod run_meaning;
 
 pub use laws::{puts_are_spelled, puts_are_there};
-pub use layout::{Layout, layout_of};
+pub use layout::{Layout, cells, layout_of, start};
 pub use parts::part_word;
 pub use run_meaning::{RunMeaning, meaning};

@@ -1,0 +1,3 @@
+mod CellWords
+mod Putting
+mod Taking

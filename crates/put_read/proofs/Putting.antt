@@ -1,0 +1,142 @@
+-- A put is filled part after part, and a reading of a run's windows is one of its puts.
+use Rattle.std.proofs.Common.{arith, refl, sym, ap, ◌∙◌, subst, ◌≡◌, ◌≢◌, ℕ, ◌+◌, ◌-◌, ◌*◌, ◌/◌, ◌<◌, ◌≤◌, ◌^◌, nat_lt, Bool, true, false, List, [], length, get_or, ℤ, Option, Some, None, if◌then◌else◌}
+use Rattle.std.specs.Option.{option_map_or}
+use Rattle.std.proofs.Math.Nat.{zero-div}
+use Rattle.word_codec.specs.Spelling.{reply_words}
+use Rattle.run_calls.specs.declared.put.Put.{Put}
+use Rattle.sp_model.specs.declared.run.Run.{Run}
+use Rattle.put_words.specs.Puts.{Made, put_of}
+use Rattle.put_words.proofs.Inside.{put_number}
+use Rattle.log_words.specs.Replies.{reply_of}
+use Rattle.window_words.specs.declared.views.View.{View}
+use Rattle.stamped_read.specs.Promises.{ReadsFor, TellsWhole, IsSameGroup}
+use Rattle.stamped_read.specs.Readers.{Reader, fresh_part, part, room_of, words_of}
+use Rattle.stamped_read.specs.declared.read.Read.TheVariants as read
+use Rattle.std.proofs.lemmas.List.FromFn.{length-map-range_with_len}
+use Rattle.put_read.specs.declared.reader.PutReader.{PutReader}
+use Rattle.put_codec.specs.declared.layout.Layout.{Layout}
+use Rattle.put_codec.specs.Entries.{AgreeBelow, FitsLayout, IsSpelled, entry_of, part_of, part_words}
+use Rattle.put_codec.specs.Layouts.{all_cells, cells_of, layout_in, start_of, width_of, windows_of}
+use Rattle.put_codec.proofs.Fitting.{part_length}
+use Rattle.put_codec.proofs.Places.{lt_test, rank_width, start_inside, start_last, start_rises}
+use Rattle.put_codec.proofs.Spellable.{put_fits, put_spelled}
+use Rattle.put_read.specs.Cells.{HasCells, HasPlaces, KeepsShape}
+use Rattle.put_read.specs.Reads.{AreShort, HasParts, ReadsPuts, TellsPut, fresh_in}
+use Rattle.put_read.proofs.Taking.{part_cells, same_put}
+
+-- while parts are taken
+pub record IsFilling (layout : Layout) (s : Reader) (number : ℕ) (put : Put) (rank : ℕ) : Type 0 where
+  pub room : FitsLayout layout put
+  pub number_is : put.number ≡ number
+  pub agrees : (given : Put) → IsSpelled given → HasParts layout s given → AgreeBelow (start_of layout rank) put given
+
+pub filling_begins : (layout : Layout) (s : Reader) (number : ℕ) (old put : Put) → FitsLayout layout old → put.number ≡ number → put.multipliers ≡ old.multipliers → put.x ≡ old.x → IsFilling layout s number put 0
+filling_begins layout s number old put room n m x = record {
+  room = record { multipliers = ap (λ (z : _). length z.values) m ∙ room.multipliers; x = ap (λ (z : List ℤ). length z) x ∙ room.x };
+  number_is = n;
+  agrees = λ given spelled has. record { multipliers = λ c l. absurd (none c l); x = λ c l. absurd (none c l) };
+}
+  where
+    none : (c : ℕ) → c < start_of layout 0 → ⊥
+    none c l =
+        let zero : 0 * layout.scenarios ≡ 0 = omega arith in
+        let first : 0 * layout.scenarios / layout.ranks ≡ 0 = ap (λ n. n / layout.ranks) zero ∙ zero-div layout.ranks in
+        let same : start_of layout 0 ≡ 0 * layout.nonleaf = ap (λ n. n * layout.nonleaf) first in
+        absurd (omega arith)
+
+module _ (layout : Layout) (s : Reader) (number : ℕ) (put : Put) (rank : ℕ) (l : rank < layout.ranks) (short : AreShort layout s) (f : IsFilling layout s number put rank) where
+  pub places_free : (words : List ℕ) (start : ℕ) → words ≡ words_of s rank → start ≡ start_of layout rank → HasPlaces put start (length words / 3)
+  places_free words start e at =
+      let few = short rank l in let wide = rank_width layout rank l in let same = ap (λ (z : List ℕ). length z) e in
+      let rises = start_rises layout rank (omega arith) in let inside = start_inside layout (rank + 1) (omega arith) in
+      let rm = f.room.multipliers in let rx = f.room.x in record { multipliers = omega arith; x = omega arith }
+
+  pub part_inside : (words : List ℕ) (start : ℕ) → words ≡ words_of s rank → start ≡ start_of layout rank → all_cells layout < 2 ^ 64 → start + length words / 3 < 2 ^ 64
+  part_inside words start e at few = let free = places_free words start e at in let end = free.x in let long = f.room.x in omega arith
+
+  pub filling_more : (words : List ℕ) (start : ℕ) (put' : Put) → words ≡ words_of s rank → start ≡ start_of layout rank → KeepsShape put put'
+      → ((given : Put) → IsSpelled given → HasCells words start given → AgreeBelow start put given → AgreeBelow (start + length words / 3) put' given) → IsFilling layout s number put' (rank + 1)
+  filling_more words start put' e at shape more = record {
+    room = record { multipliers = shape.multipliers ∙ f.room.multipliers; x = shape.x ∙ f.room.x };
+    number_is = shape.number ∙ f.number_is;
+    agrees = λ given spelled has.
+        let is : words ≡ part_words layout rank given = e ∙ has rank l in
+        let long : length words ≡ 3 * cells_of layout rank = ap (λ (z : List ℕ). length z) is ∙ part_length layout rank given in
+        let rises = start_rises layout rank (omega arith) in
+        let cells = subst (λ n. HasCells words n given) (sym at) (part_cells layout rank given words is) in
+        let before = subst (λ n. AgreeBelow n put given) (sym at) (f.agrees given spelled has) in
+        let end : start + length words / 3 ≡ start_of layout (rank + 1) = omega arith in
+        subst (λ n. AgreeBelow n put' given) end (more given spelled cells before);
+  }
+
+pub filling_ends : (layout : Layout) (s : Reader) (number : ℕ) (put : Put) (rank : ℕ) → rank ≡ layout.ranks → 0 < layout.ranks → IsFilling layout s number put rank
+    → (given : Put) → IsSpelled given → FitsLayout layout given → given.number ≡ number → HasParts layout s given → put ≡ given
+filling_ends layout s number put rank e some f given spelled fits n has =
+    let all : start_of layout rank ≡ all_cells layout = ap (start_of layout) e ∙ start_last layout some in
+    same_put put given (all_cells layout) (f.number_is ∙ sym n) f.room.multipliers fits.multipliers f.room.x fits.x (subst (λ k. AgreeBelow k put given) all (f.agrees given spelled has))
+
+-- the entry of a rank's window
+pub rank_entry : (run : Run) (w k : ℕ) (made : Made) → w < run.options.ranks → put_of run k ≡ Some made → entry_of run w k ≡ part_words (layout_in run) w made.put
+unfolding entry_of
+rank_entry run w k made l e =
+    ap (λ (b : Bool). if b then part_of run w k else reply_words (reply_of run (w - run.options.ranks) k)) (lt_test w run.options.ranks l)
+    ∙ ap (λ o. option_map_or (λ (m : Made). part_words (layout_in run) w m.put) o []) e
+
+-- parts are never longer than their windows
+pub short_parts : (run : Run) (v : View) (s : Reader) → s.window ≡ 0 → length s.parts ≡ run.options.ranks → ReadsFor (entry_of run) (width_of (layout_in run)) (windows_of (layout_in run)) v s → AreShort (layout_in run) s
+short_parts run v s first many reads i l =
+    let laid = reads.laid i (omega arith) in
+    let at : s.window + i ≡ i = omega arith in
+    let wide = ap (width_of (layout_in run)) at in
+    omega (arith, laid.1, wide)
+
+-- what a reader of a run's windows asks for, by the layout that its meaning has
+pub by_layout : (run : Run) (layout : Layout) (v : View) (s : Reader) → layout ≡ layout_in run → ReadsFor (entry_of run) (width_of (layout_in run)) (windows_of (layout_in run)) v s → ReadsFor (entry_of run) (width_of layout) (windows_of layout) v s
+by_layout run layout v s e reads = subst (λ z. ReadsFor (entry_of run) (width_of z) (windows_of z) v s) (sym e) reads
+
+pub from_layout : (run : Run) (layout : Layout) (v : View) (s : Reader) → layout ≡ layout_in run → ReadsFor (entry_of run) (width_of layout) (windows_of layout) v s → ReadsFor (entry_of run) (width_of (layout_in run)) (windows_of (layout_in run)) v s
+from_layout run layout v s e reads = subst (λ z. ReadsFor (entry_of run) (width_of z) (windows_of z) v s) e reads
+
+pub new_reads : (run : Run) (layout : Layout) (s : Reader) (put : Put) → layout ≡ layout_in run → FitsLayout layout put → s ≡ fresh_in layout → ((v : View) → ReadsFor (entry_of run) (width_of layout) (windows_of layout) v s) → (v : View) → ReadsPuts run v record { reader = s; layout = layout; put = put }
+new_reads run layout s put e room fresh reads v = record {
+  layout_is = e;
+  begins = ap (λ (z : Reader). z.window) fresh;
+  many = ap (λ (z : Reader). length z.parts) fresh ∙ (length-map-range_with_len (fresh_part (width_of layout)) 0 layout.ranks ∙ ap (λ (z : Layout). z.ranks) e);
+  room = room;
+  reads = from_layout run layout v s e (reads v);
+}
+
+-- a reader that made a step reads on
+pub steps_on : (run : Run) (v v' : View) (r : PutReader) (s' : Reader) (put' : Put) (layout : Layout) → layout ≡ layout_in run → ReadsPuts run v r → IsSameGroup r.reader s' → ReadsFor (entry_of run) (width_of layout) (windows_of layout) v' s' → FitsLayout r.layout put' → ReadsPuts run v' record { reader = s'; layout = r.layout; put = put' }
+steps_on run v v' r s' put' layout e h group reads room = record {
+  layout_is = h.layout_is;
+  begins = group.0 ∙ h.begins;
+  many = group.1 ∙ h.many;
+  room = room;
+  reads = from_layout run layout v' s' e reads;
+}
+
+pub step_short : (run : Run) (v v' : View) (r : PutReader) (s' : Reader) (layout : Layout) → layout ≡ layout_in run → ReadsPuts run v r → IsSameGroup r.reader s' → ReadsFor (entry_of run) (width_of layout) (windows_of layout) v' s' → AreShort r.layout s'
+step_short run v v' r s' layout e h group reads = subst (λ z. AreShort z s') (sym h.layout_is) (short_parts run v' s' (group.0 ∙ h.begins) (group.1 ∙ h.many) (from_layout run layout v' s' e reads))
+
+pub ranks_there : (run : Run) (r : PutReader) (v : View) → ReadsPuts run v r → (0 < r.layout.ranks) × (r.layout.ranks ≡ length r.reader.parts)
+ranks_there run r v h = let some = run.facts.options_fit.some_ranks in let same = ap (λ (z : Layout). z.ranks) h.layout_is in let many = h.many in (omega arith, omega arith)
+
+-- the put that was read
+pub reading_tells : (run : Run) (v : View) (r : PutReader) (s' : Reader) (put' : Put) (most k : ℕ) → ReadsPuts run v r → most ≡ run.options.iterations + 1 → TellsWhole (entry_of run) most r.reader s' (read.Reading k)
+    → ((given : Put) → IsSpelled given → FitsLayout r.layout given → given.number ≡ k → HasParts r.layout s' given → put' ≡ given) → TellsPut run r record { reader = s'; layout = r.layout; put = put' } (read.Reading k)
+reading_tells run v r s' put' most k h last whole filled = (
+  whole.0,
+  omega (arith, whole.1),
+  whole.2,
+  λ made e.
+      let few : k ≤ run.options.iterations + 1 = omega (arith, whole.1) in
+      let parts : HasParts (layout_in run) s' made.put = λ i l.
+      let there : i < length r.reader.parts = let many = h.many in omega arith in
+      let at : r.reader.window + i ≡ i = let begins = h.begins in omega arith in
+      whole.3 i there ∙ (ap (λ w. entry_of run w k) at ∙ rank_entry run i k made l e) in
+      filled made.put (put_spelled run k made few e) (subst (λ z. FitsLayout z made.put) (sym h.layout_is) (put_fits run k made e)) (put_number run k made e) (subst (λ z. HasParts z s' made.put) (sym h.layout_is) parts),
+)
+
+pub cells_few : (run : Run) (v : View) (r : PutReader) → ReadsPuts run v r → all_cells r.layout < 2 ^ 64
+cells_few run v r h = let few = run.facts.counts.nonleaf_cells in let same = ap all_cells h.layout_is in omega arith

@@ -1,0 +1,9 @@
+pub mod Cells
+pub mod Reads
+pub use Rattle.base_words.specs.Sums
+pub use Rattle.put_codec.specs.Entries
+pub use Rattle.put_codec.specs.Layouts
+pub use Rattle.put_words.specs.Puts
+pub use Rattle.stamped_read.specs.Promises
+pub use Rattle.stamped_read.specs.Readers
+pub use Rattle.word_codec.specs.Spelling

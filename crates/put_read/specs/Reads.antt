@@ -1,0 +1,53 @@
+-- What a reader of puts keeps, and what its answers promise.
+
+use Rattle.std.specs.Prelude.{◌≡◌, ℕ, ◌<◌, ◌≤◌, ◌+◌, length, map, Some}
+use Rattle.std.specs.List.{range_with_len}
+use Rattle.run_calls.specs.declared.put.Put.{Put}
+use Rattle.sp_model.specs.declared.run.Run.{Run}
+use Rattle.put_words.specs.Puts.{Made, put_of}
+use Rattle.window_words.specs.declared.views.View.{View}
+use Rattle.stamped_read.specs.Promises.{ReadsFor}
+use Rattle.stamped_read.specs.Readers.{Reader, fresh_part, fresh_reader, words_of}
+use Rattle.stamped_read.specs.declared.read.Read.{Read}
+use Rattle.stamped_read.specs.declared.read.Read.TheVariants as read
+use Rattle.put_codec.specs.Entries.{FitsLayout, IsSpelled, entry_of, part_words}
+use Rattle.put_codec.specs.Layouts.{layout_in, width_of, windows_of}
+use Rattle.put_codec.specs.declared.layout.Layout.{Layout}
+use Rattle.put_read.specs.declared.reader.PutReader.{PutReader}
+
+-- a reader of the ranks' windows of a layout that has read nothing
+abbrev pub fresh_in : Layout → Reader
+fresh_in layout =
+    fresh_reader 0 (map (fresh_part (width_of layout)) (range_with_len 0 layout.ranks))
+
+-- the reader reads the puts of a run for a seat with this view: it reads all ranks' windows, and its
+-- put has room for the run's cells
+pub record ReadsPuts (run : Run) (v : View) (r : PutReader) : Type 0 where
+  pub layout_is : r.layout ≡ layout_in run
+  pub begins : r.reader.window ≡ 0
+  pub many : length r.reader.parts ≡ run.options.ranks
+  pub room : FitsLayout r.layout r.put
+  pub reads : ReadsFor (entry_of run) (width_of (layout_in run)) (windows_of (layout_in run))
+      v r.reader
+
+-- the put that was read stays, and which one is the last
+pub record KeepsPut (r r' : PutReader) : Type 0 where
+  pub put : r'.put ≡ r.put
+  pub last : r'.reader.last ≡ r.reader.last
+
+-- a reading that is answered is put k of the run, newer than the last; no other answer changes the
+-- put that was read last
+abbrev pub TellsPut : Run → PutReader → PutReader → Read → Type 0
+TellsPut run r r' read.Going = KeepsPut r r'
+TellsPut run r r' (read.Reading k) =
+    (r.reader.last < k) × (k ≤ run.options.iterations + 1) × (r'.reader.last ≡ k)
+    × ((made : Made) → put_of run k ≡ Some made → r'.put ≡ made.put)
+TellsPut run r r' (read.Again again) = KeepsPut r r'
+
+-- a reader has the parts of a put
+abbrev pub HasParts : Layout → Reader → Put → Type 0
+HasParts layout s put = (i : ℕ) → i < layout.ranks → words_of s i ≡ part_words layout i put
+
+-- no part is longer than its window
+abbrev pub AreShort : Layout → Reader → Type 0
+AreShort layout s = (i : ℕ) → i < layout.ranks → length (words_of s i) ≤ width_of layout i
