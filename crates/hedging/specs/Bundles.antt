@@ -8,4 +8,5 @@ use Rattle.sp_model.specs.declared.run.Run.{Run}
 -- the numbers of the nodes that have scenario s, from the first stage on
 abbrev pub nodes_for : Run → ℕ → List ℕ
 nodes_for run s =
-    map (λ t. node_place run.program.tree.nodes s (t + 1)) (range_with_len 0 run.program.tree.stages)
+    map (λ t. node_place run.program.tree.nodes s (t + 1))
+    (range_with_len 0 run.program.tree.stages)

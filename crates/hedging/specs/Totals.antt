@@ -32,7 +32,8 @@ pub record AreTotals (run : Run) (x : List ℤ) (totals : Totals) : Type 0 where
 
 -- what a put's next multipliers and hedged problems are made of: multipliers of the run that are
 -- small enough, values in the boxes of their columns, and what the nodes sum up of those
-pub record IsReady (run : Run) (multipliers : Multipliers) (x : List ℤ) (totals : Totals) : Type 0 where
+pub record IsReady (run : Run) (multipliers : Multipliers) (x : List ℤ)
+    (totals : Totals) : Type 0 where
   pub long : AreLong run multipliers
   pub sized : AreSized run multipliers
   pub inside : AreInside run x

@@ -185,7 +185,8 @@ impl Totals {
         requires totals { AreTotals run.now x.now self.now }
         requires node { node < length run.now.program.tree.nodes }
         ensures { result
-            ≡ rounded_down number (weight_of run.now (scenarios_at run.now.program.tree.nodes node)) }
+            ≡ rounded_down number (weight_of run.now
+            (scenarios_at run.now.program.tree.nodes node)) }
     {
         quotient(number, self.weight(run, x, node))
     }

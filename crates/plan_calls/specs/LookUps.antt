@@ -15,4 +15,5 @@ cost_with j before (change.Limits row lower upper) = before
 abbrev pub limits_with : ℕ → Limits → Change → Limits
 limits_with i before (change.Cost column value) = before
 limits_with i before (change.Cell row column value) = before
-limits_with i before (change.Limits row lower upper) = if row == i then record { lower = lower; upper = upper } else before
+limits_with i before (change.Limits row lower upper) =
+    if row == i then record { lower = lower; upper = upper } else before

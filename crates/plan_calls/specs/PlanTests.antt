@@ -35,11 +35,13 @@ lies_on side value = int_le side.lower value && int_le value side.upper
 
 -- the value of scenario s in column j, where it lies outside the column's box
 abbrev pub outside_at : Run → Plan → ℕ → ℕ → Option NoPlan
-outside_at run plan s j = if lies_on (side_at (sides run.program) j) (value_in plan s j) then None else Some (failure.Outside s j (value_in plan s j))
+outside_at run plan s j = if lies_on (side_at (sides run.program) j) (value_in plan s j) then None
+    else Some (failure.Outside s j (value_in plan s j))
 
 -- the first such column of scenario s
 abbrev pub outside_in : Run → Plan → ℕ → Option NoPlan
-outside_in run plan s = first_some (outside_at run plan s) (range_with_len 0 (length run.program.columns))
+outside_in run plan s =
+    first_some (outside_at run plan s) (range_with_len 0 (length run.program.columns))
 
 -- the activity of row i in the problem of scenario s, at the scenario's point
 abbrev pub activity_in : Run → Plan → ℕ → ℕ → ℤ
@@ -47,7 +49,8 @@ activity_in run plan s i = activity (data_at run s).entries (point_of plan s) i
 
 -- this activity, where it lies outside the row's limits in scenario s
 abbrev pub unmet_at : Run → Plan → ℕ → ℕ → Option NoPlan
-unmet_at run plan s i = if meets (limits_at (data_at run s).limits i) (activity_in run plan s i) then None else Some (failure.Row s i (activity_in run plan s i))
+unmet_at run plan s i = if meets (limits_at (data_at run s).limits i) (activity_in run plan s i)
+    then None else Some (failure.Row s i (activity_in run plan s i))
 
 -- the first such row of scenario s
 abbrev pub unmet_in : Run → Plan → ℕ → Option NoPlan
@@ -59,19 +62,24 @@ infeasible_in run plan s = option_or (outside_in run plan s) (unmet_in run plan 
 
 -- the value of scenario s in column j beside another, where they differ
 abbrev pub differs_at : Plan → ℕ → ℕ → ℤ → ℕ → Option NoPlan
-differs_at plan i j first s = if int_eq (value_in plan s j) first then None else Some (failure.Split i j first (value_in plan s j))
+differs_at plan i j first s = if int_eq (value_in plan s j) first then None
+    else Some (failure.Split i j first (value_in plan s j))
 
 -- the value of the first scenario of node i in column j
 abbrev pub first_value : Run → Plan → ℕ → ℕ → ℤ
 first_value run plan i j = value_in plan (first_of (node_at run i)) j
 
--- the first scenario of node i whose value differs from that of the node's first one, in a column j of the node's stage
+-- the first scenario of node i whose value differs from that of the node's first one, in a column j
+-- of the node's stage
 abbrev pub split_at : Run → Plan → ℕ → ℕ → Option NoPlan
-split_at run plan i j = if is_of_stage run i j then first_some (differs_at plan i j (first_value run plan i j)) (scenarios_at run.program.tree.nodes i) else None
+split_at run plan i j = if is_of_stage run i j
+    then first_some (differs_at plan i j (first_value run plan i j))
+    (scenarios_at run.program.tree.nodes i) else None
 
 -- the first such column of node i
 abbrev pub split_in : Run → Plan → ℕ → Option NoPlan
-split_in run plan i = first_some (split_at run plan i) (range_with_len 0 (length run.program.columns))
+split_in run plan i =
+    first_some (split_at run plan i) (range_with_len 0 (length run.program.columns))
 
 -- the first scenario whose point isn't feasible
 abbrev pub infeasible : Run → Plan → Option NoPlan

@@ -20,8 +20,8 @@ abbrev pub fresh_in : Layout → Reader
 fresh_in layout =
     fresh_reader 0 (map (fresh_part (width_of layout)) (range_with_len 0 layout.ranks))
 
--- the reader reads the puts of a run for a seat with this view: it reads all ranks' windows, and its
--- put has room for the run's cells
+-- the reader reads the puts of a run for a seat with this view: it reads all ranks' windows, and
+-- its put has room for the run's cells
 pub record ReadsPuts (run : Run) (v : View) (r : PutReader) : Type 0 where
   pub layout_is : r.layout ≡ layout_in run
   pub begins : r.reader.window ≡ 0

@@ -35,7 +35,8 @@ before_in state = record {
   names = state.names;
 }
 
--- an error tells this fault at this line, and then this stays the same; memory is wanting only for a
+-- an error tells this fault at this line, and then this stays the same; memory is wanting only for
+-- a
 -- line without a fault
 abbrev pub Refuses : StochFault → Option StochKind → TextLine → Type 0 → Type 0
 Refuses faults.Memory fault line same = fault ≡ None
@@ -48,7 +49,8 @@ abbrev pub Turns : {X : Type 0} → Option StochKind → TextLine → Result X S
 Turns fault line (Ok x) same after = (fault ≡ None) × after
 Turns fault line (Err e) same after = Refuses e fault line same
 
--- a line of data tells its fault by the lines before, and then the state shows what it showed; where
+-- a line of data tells its fault by the lines before, and then the state shows what it showed;
+-- where
 -- there is none it shows what the line adds
 abbrev pub Adds : Core → Periods → (Before → TextLine → Option StochKind) → State → FileLine
     → Result (Unit {0}) StochFault → State → Type 0
