@@ -37,4 +37,4 @@ pub record IsReady (run : Run) (multipliers : Multipliers) (x : List ℤ)
   pub long : AreLong run multipliers
   pub sized : AreSized run multipliers
   pub inside : AreInside run x
-  pub totals : AreTotals run x totals
+  pub summed : AreTotals run x totals

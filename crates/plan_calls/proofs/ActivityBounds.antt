@@ -22,7 +22,6 @@ use Rattle.boxed_problem.proofs.Magnitudes.{activity_fits, activity_part-size, e
 use Rattle.sp_model.specs.Changes.{all_data, core_data, data_of, limits_of, side_of, sides}
 use Rattle.sp_model.specs.RunFacts.{is_change}
 use Rattle.sp_model.specs.Problems.{data_at, no_scenario, scenario_at, scenarios}
-use Rattle.sp_model.specs.Reaching.{data_reach}
 use Rattle.sp_model.specs.declared.program.Change.{Change}
 use Rattle.sp_model.specs.declared.program.Change.TheVariants.{Cost, Cell, Limits}
 use Rattle.sp_model.specs.declared.program.Program.{Program}
@@ -30,7 +29,7 @@ use Rattle.sp_model.specs.declared.run.Run.{Run}
 use Rattle.sp_model.proofs.Bounds.{reach_parts, rows_fit}
 use Rattle.sp_model.proofs.DataFacts.{data_keeps}
 use Rattle.sp_model.proofs.EntryOrder.{chain_from}
-use Rattle.sp_model.proofs.Sizes.{greatest_le}
+use Rattle.sp_model.proofs.ProgramReach.{core_rows_le}
 use Rattle.reach_core.proofs.Balance.{apart_from, balance, given, taken, taken_there}
 use Rattle.reach_core.proofs.Within.{sum_le}
 use Rattle.plan_calls.specs.Moves.{IsSmallMove, IsSmallPart, cell, entry_in, move_of}
@@ -40,9 +39,8 @@ pub core_row : (run : Run) (i : ℕ) → i < length run.program.rows → sum_by 
 core_row run i l =
     let p = run.program in
     let own = sum_le p (core_data p) i (omega (arith, l, length-map p.rows limits_of)) in
-    let all = greatest_le (data_reach p) (all_data p) 0 (core_data p) (omega arith) in
-    let limit = (reach_parts run).2 in
-    omega (arith, own, all, limit)
+    let limit = (reach_parts run).3 in
+    omega (arith, own, core_rows_le p, limit)
 
 scenario_row : (run : Run) (s i : ℕ) → s < scenarios run → i < length run.program.rows → sum_by (entry_size (sides run.program) i) (data_at run s).entries ≤ 2 ^ 122
 scenario_row run s i there l = let long = (data_keeps run s there).limits_long in omega (arith, rows_fit run s i there (omega (arith, l, long)))

@@ -11,7 +11,7 @@ next_multipliers-requires c = record {
   long = c.requires.long;
   sized = c.requires.sized;
   inside = subst (λ (x : List ℤ). AreInside c.args.run.now x) (sym c.in_ok-x.ensures) c.requires.inside;
-  totals = c.in_ok-totals.ensures;
+  summed = c.in_ok-totals.ensures;
 }
 
 pub returns : goal.returns

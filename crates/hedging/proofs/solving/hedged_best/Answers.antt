@@ -7,7 +7,7 @@ hedged-requires-clause-ready c = record {
   long = c.requires.long;
   sized = c.requires.sized;
   inside = c.requires.inside;
-  totals = c.requires.totals;
+  summed = c.requires.totals;
 }
 
 pub unreachable-requires : goal.unreachable-requires
