@@ -1,11 +1,12 @@
 -- The tests of a place's last entry hold of all its entries, and each place of a realisation has one value.
 use Rattle.std.proofs.Common.{◌≡◌, refl, sym, ap, ◌∙◌, subst, ℕ, zero, suc, ◌+◌, ◌<◌, ◌≤◌, ◌==◌, Bool, true, false, not, ◌&&◌, List, [], ◌∷◌, ◌++◌, length, take, get_or, Option, Some, None, arith}
-use Rattle.std.specs.Prelude.{slice_get}
+use Rattle.std.specs.Prelude.{find, if◌then◌else◌, slice_get}
 use Rattle.std.specs.List.{All, AllPairs, Contains, list_any, position_or_len}
 use Rattle.std.specs.Option.{option_map, option_map_or}
 use Rattle.std.proofs.Math.Seq.{take-length}
 use Rattle.std.proofs.lemmas.Bool.Decides.{nat_tests}
 use Rattle.std.proofs.lemmas.List.{take_more}
+use Rattle.std.proofs.lemmas.List.Elements.{All-head, All-tail}
 use Rattle.std.proofs.lemmas.List.Folds.{find_at, list_any_at, list_any_none}
 use Rattle.std.proofs.lemmas.List.Sums.{position_or_len_is}
 use Rattle.std.proofs.lemmas.Option.{slice_get-get_or}
@@ -70,10 +71,10 @@ module _ (entries : List Owned) (place : StochPlace) where
 
 -- the facts hold before each line
 module _ (core : Core) (periods : Periods) (lines : List TextLine) (clean : AreClean core periods lines) where
-  abbrev HasFacts : List TextLine → Type 0
+  abbrev pub HasFacts : List TextLine → Type 0
   HasFacts before = SaidFacts core periods (before_of core periods before) × GoesOnWell (before_of core periods before)
 
-  facts_to : (n : ℕ) → n ≤ length lines → HasFacts (take n lines)
+  pub facts_to : (n : ℕ) → n ≤ length lines → HasFacts (take n lines)
   facts_to zero most = (nothing_well core periods, nothing_goes core periods)
   facts_to (suc n) most =
       let below : n < length lines = omega (arith, most) in
@@ -108,3 +109,11 @@ own_value entries entry once (k, lt, at) =
     (λ _. subst (λ (e : StochEntry). same_place e.place entry.place ≡ true) (sym at) (same_self entry.place)) in
     ap (option_map (λ (e : StochEntry). e.value))
     (find_at p entries ∙ ap (λ (n : ℕ). slice_get entries n) first ∙ slice_get-get_or entries k entry lt ∙ ap Some at)
+
+-- a place of which there is no entry has none
+pub no_value : (entries : List StochEntry) (place : StochPlace) → All (λ e. same_place e.place place ≡ false) entries → value_at_place place entries ≡ None
+no_value [] place none = refl
+no_value (e ∷ entries) place none =
+    let P : StochEntry → Type 0 = λ x. same_place x.place place ≡ false in
+    let rest = no_value entries place (All-tail P e entries none) in
+    ap (λ (b : Bool). option_map (λ (x : StochEntry). x.value) (if b then Some e else find (λ (x : StochEntry). same_place x.place place) entries)) (All-head P e entries none) ∙ rest

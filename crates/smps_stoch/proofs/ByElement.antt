@@ -1,11 +1,9 @@
 -- A realisation is of the element of its line's place or block, whatever lines come later.
-use Rattle.std.proofs.Common.{◌≡◌, refl, sym, ap, ◌∙◌, subst, ℕ, ◌+◌, ◌<◌, Bool, true, false, cond, ◌||◌, List, [], ◌∷◌, ◌++◌, length, map, get_or, arith, below_more, eqb, eq-eqb, length-append}
+use Rattle.std.proofs.Common.{◌≡◌, refl, sym, ap, ◌∙◌, subst, ℕ, ◌+◌, ◌<◌, Bool, true, false, List, [], ◌∷◌, ◌++◌, length, map, get_or, arith, below_more, length-append}
 use Rattle.std.specs.Prelude.{fold, if◌then◌else◌, Option, Some, None}
 use Rattle.std.specs.List.{All, list_any}
-use Rattle.std.proofs.lemmas.Bool.Decides.{nat_tests}
 use Rattle.std.proofs.lemmas.List.{append-nil, append_assoc, get_or-map, get_or_append_left, get_or_at, length-map, map-append}
 use Rattle.std.proofs.lemmas.List.Elements.{All-head, All-nil, All-push, All-tail}
-use Rattle.std.proofs.lemmas.List.Folds.{list_any-append, list_any_at, position_or_len_push}
 use Rattle.std.proofs.lemmas.List.Sums.{passes_at_first}
 use Rattle.smps_words.proofs.ToldLaws.{told_push}
 use Rattle.smps_words.specs.TextLines.{TextLine}
@@ -26,6 +24,7 @@ use Rattle.smps_stoch.specs.LawWords.{AreByElement, AreInOrder}
 use Rattle.smps_stoch.specs.SaidFacts.{chosen_element, IsUsed}
 use Rattle.smps_stoch.specs.StochData.{no_choice}
 use Rattle.smps_stoch.proofs.LastEntries.{same_is, same_self}
+use Rattle.smps_stoch.proofs.Numbering.{known_more, known_now, new_number, old_number}
 use Rattle.smps_stoch.proofs.SaidLaws.{now_used, still_used}
 
 source_is : (a b : Source) → same_source a b ≡ true → a ≡ b
@@ -37,33 +36,6 @@ source_is (Block a) (Block b) e = ap (λ n. Block n) (grind (arith, e))
 source_self : (a : Source) → same_source a a ≡ true
 source_self (Place p) = same_self p
 source_self (Block b) = grind arith
-
--- the number of a source that is there stays as the list grows, and a new one has the next number
-module _ (sources : List Source) (new : Source) where
-  old_number : (source : Source) → list_any (same_source source) sources ≡ true → element_of (sources ++ new ∷ []) source ≡ element_of sources source
-  old_number source known =
-      let below = some_passes (same_source source) sources known in
-      let off : eqb (element_of sources source) (length sources) ≡ false = grind (arith, nat_tests, below) in
-      position_or_len_push (same_source source) sources new
-      ∙ ap (λ (b : Bool). cond b (length sources + cond (same_source source new) 0 1) (element_of sources source)) off
-
-  new_number : list_any (same_source new) sources ≡ false → element_of (sources ++ new ∷ []) new ≡ element_of sources new
-  new_number unknown =
-      let past = none_passes (same_source new) sources unknown in
-      position_or_len_push (same_source new) sources new
-      ∙ ap (λ (b : Bool). cond b (length sources + cond (same_source new new) 0 1) (element_of sources new)) (eq-eqb _ _ past)
-      ∙ ap (λ (b : Bool). length sources + cond b 0 1) (source_self new)
-      ∙ (omega (arith, past))
-
-  known_more : (source : Source) → list_any (same_source source) sources ≡ true → list_any (same_source source) (sources ++ new ∷ []) ≡ true
-  known_more source known =
-      list_any-append (same_source source) sources (new ∷ [])
-      ∙ ap (λ (b : Bool). b || list_any (same_source source) (new ∷ [])) known
-
-  known_now : list_any (same_source new) (sources ++ new ∷ []) ≡ true
-  known_now =
-      list_any_at (same_source new) (sources ++ new ∷ []) (length sources) new (rw length-append (omega arith))
-      (ap (same_source new) (get_or_at sources new [] new (length sources) refl) ∙ source_self new)
 
 map_same : {X Y : Type 0} (f g : X → Y) (xs : List X) → All (λ x. f x ≡ g x) xs → map f xs ≡ map g xs
 map_same f g [] same = refl
@@ -110,16 +82,16 @@ one_more_by said sources realisations saying false is facts =
     let old : map (chosen_by all) said ≡ map (chosen_by sources) said =
     map_same (chosen_by all) (chosen_by sources) said (λ k d lt.
     let s = get_or said k d in
-    ap (λ (n : ℕ). record { element = n; probability = s.probability }) (old_number sources saying.source s.source (facts.known k d lt))) in
+    ap (λ (n : ℕ). record { element = n; probability = s.probability }) (old_number same_source sources saying.source s.source (facts.known k d lt))) in
     let new : chosen_by all saying ≡ chosen_by sources saying =
-    ap (λ (n : ℕ). record { element = n; probability = saying.probability }) (new_number sources saying.source is) in
+    ap (λ (n : ℕ). record { element = n; probability = saying.probability }) (new_number same_source sources saying.source (source_self saying.source) is) in
     record {
       chosen = ap (λ (rs : List Chosen). rs ++ chosen_by sources saying ∷ []) (facts.chosen ∙ sym old)
           ∙ ap (λ (c : Chosen). map (chosen_by all) said ++ c ∷ []) (sym new)
           ∙ sym (map-append (chosen_by all) said (saying ∷ []));
       known = All-push (λ (s : Saying). list_any (same_source s.source) all ≡ true) said saying
-          (λ k d lt. known_more sources saying.source (get_or said k d).source (facts.known k d lt))
-          (known_now sources saying.source);
+          (λ k d lt. known_more same_source sources saying.source (get_or said k d).source (facts.known k d lt))
+          (known_now same_source sources saying.source (source_self saying.source));
       used = λ k lt. below_more (IsUsed (realisations ++ chosen ∷ [])) (length sources) (λ j below. still_used realisations chosen j (facts.used j below)) (subst (IsUsed (realisations ++ chosen ∷ [])) past (now_used realisations chosen)) k (subst (λ (m : ℕ). k < m) (length-append sources (saying.source ∷ [])) lt);
       ordered = order_more realisations chosen facts.ordered (λ k less. facts.used k (omega (arith, less, past)));
     }

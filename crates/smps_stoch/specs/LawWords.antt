@@ -1,17 +1,20 @@
--- Words of the laws on elements and on the values of places.
-use Rattle.std.specs.Prelude.{◌≡◌, ◌↔◌, ℕ, ◌+◌, ◌<◌, ◌≤◌, ◌&&◌, ◌==◌, not, true, Bool, List, length, slice_index_or, find, Option}
-use Rattle.std.specs.List.{list_any}
+-- Words of the laws on elements, entries and the values of places.
+use Rattle.std.specs.Prelude.{◌≡◌, ◌↔◌, ℕ, ◌+◌, ◌<◌, ◌≤◌, ◌&&◌, ◌==◌, if◌then◌else◌, not, true, Bool, List, [], ◌∷◌, length, take, slice_index_or, find, Option, Some, None}
+use Rattle.std.specs.List.{list_any, Contains}
 use Rattle.std.specs.Option.{option_map, option_or}
 use Rattle.dec_core.specs.declared.decimal.Decimal.{Decimal}
 use Rattle.smps_words.specs.FirstPlaces.{CleanTo}
-use Rattle.smps_words.specs.TextLines.{TextLine}
+use Rattle.smps_words.specs.TextLines.{TextLine, field, no_line}
 use Rattle.smps_words.specs.declared.core_file.Core.{Core}
 use Rattle.smps_words.specs.declared.periods.Periods.{Periods}
-use Rattle.stoch_lines.specs.Before.{Before}
+use Rattle.stoch_lines.specs.Before.{blocks_of, names_of, sayings_of, section_of, Before}
 use Rattle.stoch_lines.specs.Faults.{is_end, is_given, is_taken}
 use Rattle.stoch_lines.specs.Places.{same_place, same_source}
+use Rattle.stoch_lines.specs.Sayings.{begins_block, begins_scenario, block_number, entries_at, entry_at, is_block_line, is_scenarios}
 use Rattle.stoch_lines.specs.StochOutcome.{fault_after}
 use Rattle.stoch_lines.specs.declared.entries.Owned.{Owned}
+use Rattle.stoch_lines.specs.declared.heading.Heading.{Heading}
+use Rattle.stoch_lines.specs.declared.heading.Heading.TheVariants as headings
 use Rattle.stoch_lines.specs.declared.places.StochEntry.{StochEntry}
 use Rattle.stoch_lines.specs.declared.places.StochPlace.{StochPlace}
 use Rattle.stoch_lines.specs.declared.state.Chosen.{Chosen}
@@ -43,6 +46,57 @@ pub record LastTellsAll (b : Before) : Type 0 where
 -- no line has a fault or ends the file
 abbrev pub AreClean : Core → Periods → List TextLine → Type 0
 AreClean core periods lines = CleanTo (fault_after core periods) is_end lines (length lines)
+
+-- the line at place n of some lines, counted from 0, and the section in which it stands
+abbrev pub line_at : List TextLine → ℕ → TextLine
+line_at lines n = slice_index_or lines n no_line
+
+abbrev pub section_at : List TextLine → ℕ → Option Heading
+section_at lines n = section_of (take n lines)
+
+-- whether line n begins a realisation of a block, and the number of that block
+abbrev pub is_block_at : List TextLine → ℕ → Bool
+is_block_at lines n = is_block_line (section_at lines n) (line_at lines n)
+
+abbrev pub block_at : List TextLine → ℕ → ℕ
+block_at lines n = block_number (blocks_of (take n lines)) (line_at lines n)
+
+-- two lines that begin realisations of blocks have one block exactly where they name the same one
+abbrev pub AreByName : List TextLine → Type 0
+AreByName lines =
+    (m n : ℕ) → m < length lines → n < length lines → is_block_at lines m ≡ true
+    → is_block_at lines n ≡ true
+    → (block_at lines m ≡ block_at lines n)
+    ↔ (field 1 (line_at lines m) ≡ field 1 (line_at lines n))
+
+-- the entries that a line of data of a section has: one in INDEP, and in BLOCKS and SCENARIOS one
+-- or two unless it begins a realisation or a scenario
+abbrev pub entries_said : Core → Option Heading → TextLine → List StochEntry
+entries_said core None line = []
+entries_said core (Some headings.Indep) line = entry_at core 1 line ∷ []
+entries_said core (Some headings.Blocks) line =
+    if begins_block line then [] else entries_at core line
+entries_said core (Some headings.Scenarios) line =
+    if begins_scenario line then [] else entries_at core line
+
+-- the entries of line n, of which a header has none
+abbrev pub entries_on : Core → List TextLine → ℕ → List StochEntry
+entries_on core lines n =
+    let line = line_at lines n in
+    if line.header then [] else entries_said core (section_at lines n) line
+
+-- how many realisations have begun up to line n and with it, and in SCENARIOS how many scenarios
+abbrev pub begun_up_to : Core → Periods → List TextLine → ℕ → ℕ
+begun_up_to core periods lines n =
+    let up_to = take (n + 1) lines in
+    if is_scenarios (section_at lines n) then length (names_of up_to)
+    else length (sayings_of core periods up_to)
+
+-- some line has this entry, and realisation or scenario k is the last one that has begun up to it
+abbrev pub IsOnLine : Core → Periods → List TextLine → ℕ → StochEntry → Type 0
+IsOnLine core periods lines k entry =
+    (n : ℕ) × (n < length lines) × Contains (entries_on core lines n) entry
+    × (k + 1 ≡ begun_up_to core periods lines n)
 
 -- the i-th and the j-th realisation are of one element exactly where their lines have the same
 -- place or block
