@@ -46,6 +46,10 @@ opens_or_ends line = line.header || (begins_block line || begins_scenario line)
 abbrev pub last_field : TextLine → List ℕ
 last_field line = field (field_count line - 1) line
 
+-- the column that a line's first field names, if it names one
+abbrev pub first_column : Core → TextLine → Option ℕ
+first_column core line = position (bytes_eq (field 0 line)) core.column_names
+
 -- the place that a line's first field and its field k name
 abbrev pub place_at : Core → ℕ → TextLine → Option StochPlace
 place_at core k line = stoch_place core (field 0 line) (field k line)

@@ -11,7 +11,7 @@ use crate::entries::Owned;
 use crate::fields::{fault_at, known_period, last_field, probability_of};
 use crate::kinds::{StochFault, StochKind};
 use crate::pairs::pair_of;
-use crate::place_words::{anticipates, stage_of_place};
+use crate::place_words::{anticipates, first_column, stage_of_place};
 use crate::places::{Source, StochEntry};
 use crate::state::{Saying, State};
 use dec_core::Decimal;
@@ -46,7 +46,8 @@ fn fields_of(core: &Core, periods: &Periods, line: &FileLine<'_>) -> Result<Inde
     if count != 4 && count != 5 {
         return Err(StochKind::Fields);
     }
-    let entry = pair_of(core, 1, line)?;
+    let column = first_column(core, line);
+    let entry = pair_of(core, column, 1, line)?;
     let named = named_of(periods, line)?;
     let probability = probability_of(last_field(line))?;
     Ok(IndepFields {

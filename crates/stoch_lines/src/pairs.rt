@@ -4,13 +4,13 @@ ghost use Rattle.smps_words.specs.Tables.{Passes};
 ghost use Rattle.smps_words.specs.TextLines.{text_of};
 ghost use Rattle.stoch_lines.specs.Faults.{pair_fault, pairs_fault, places_rules, is_repeated};
 ghost use Rattle.stoch_lines.specs.Places.{anticipates, stage_of_place};
-ghost use Rattle.stoch_lines.specs.Sayings.{entry_at, entries_at};
+ghost use Rattle.stoch_lines.specs.Sayings.{entry_at, entries_at, first_column};
 ghost use Rattle.stoch_lines.specs.Turns.{pair_entries, pair_places};
 
 use crate::entries::Entries;
 use crate::fields::number_of_text;
 use crate::kinds::StochKind;
-use crate::place_words::{anticipates, place_at, same_place, stage_of_place};
+use crate::place_words::{anticipates, first_column, place_at, same_place, stage_of_place};
 use crate::places::{StochEntry, StochPlace};
 use smps_words::{Core, FileLine, Periods};
 
@@ -21,13 +21,20 @@ pub struct Pairs {
     pub second: Option<StochEntry>,
 }
 
-/// The entry of the row in a line's field `k` and the value behind it.
-pub fn pair_of(core: &Core, k: usize, line: &FileLine<'_>) -> Result<StochEntry, StochKind>
-    requires { k ≤ 3 }
+/// The entry of the row in a line's field `k` and the value behind it, given the
+/// column of the first field.
+pub fn pair_of(
+    core: &Core,
+    column: Option<u32>,
+    k: usize,
+    line: &FileLine<'_>,
+) -> Result<StochEntry, StochKind>
+    requires column { column ≡ first_column core.now (text_of line.now) }
+    requires small { k ≤ 3 }
     ensures { Passes (pair_fault core.now k (text_of line.now)) result
         (λ e. e ≡ entry_at core.now k (text_of line.now)) }
 {
-    let Some(place) = place_at(core, k, line) else {
+    let Some(place) = place_at(core, column, k, line) else {
         return Err(StochKind::Unknown);
     };
     let value = number_of_text(line.field(k + 1))?;
@@ -47,9 +54,10 @@ pub fn pairs_of(core: &Core, line: &FileLine<'_>) -> Result<Pairs, StochKind>
     if count != 3 && count != 5 {
         return Err(StochKind::Fields);
     }
-    let first = pair_of(core, 1, line)?;
+    let column = first_column(core, line);
+    let first = pair_of(core, column, 1, line)?;
     let second = if count == 5 {
-        Some(pair_of(core, 3, line)?)
+        Some(pair_of(core, column, 3, line)?)
     } else {
         None
     };

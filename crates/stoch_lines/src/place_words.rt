@@ -1,7 +1,7 @@
 ghost use Rattle.std.specs.Prelude.{◌≡◌};
 ghost use Rattle.smps_words.specs.TextLines.{text_of};
-ghost use Rattle.stoch_lines.specs.Places.{place_in_column, place_on_right, is_right_name, stoch_place, same_place, stage_of_place, anticipates};
-ghost use Rattle.stoch_lines.specs.Sayings.{place_at};
+ghost use Rattle.stoch_lines.specs.Places.{place_in_column, place_on_right, is_right_name, place_of_first, same_place, stage_of_place, anticipates};
+ghost use Rattle.stoch_lines.specs.Sayings.{first_column, place_at};
 
 use crate::places::StochPlace;
 use smps_words::{Core, FileLine, Periods, same};
@@ -33,22 +33,35 @@ fn is_right_name(core: &Core, first: &[u8]) -> bool
     same(first, b"RHS") || same(first, core.right_name.as_slice())
 }
 
-/// The place that a first field and a row name, if they name one.
-pub fn stoch_place(core: &Core, first: &[u8], row: &[u8]) -> Option<StochPlace>
-    ensures { result ≡ stoch_place core.now first.now row.now }
+fn place_of_first(core: &Core, column: Option<u32>, first: &[u8], row: &[u8]) -> Option<StochPlace>
+    ensures { result ≡ place_of_first core.now column first.now row.now }
 {
-    match core.column_names.find(first) {
+    match column {
         Some(column) => place_in_column(core, column, row),
         None if is_right_name(core, first) => place_on_right(core, row),
         None => None,
     }
 }
 
-/// The place that a line's first field and its field `k` name.
-pub fn place_at(core: &Core, k: usize, line: &FileLine<'_>) -> Option<StochPlace>
+/// The column that a line's first field names, if it names one.
+pub fn first_column(core: &Core, line: &FileLine<'_>) -> Option<u32>
+    ensures { result ≡ first_column core.now (text_of line.now) }
+{
+    core.column_names.find(line.field(0))
+}
+
+/// The place that a line's first field and its field `k` name, given the first
+/// field's column.
+pub fn place_at(
+    core: &Core,
+    column: Option<u32>,
+    k: usize,
+    line: &FileLine<'_>,
+) -> Option<StochPlace>
+    requires { column ≡ first_column core.now (text_of line.now) }
     ensures { result ≡ place_at core.now k (text_of line.now) }
 {
-    stoch_place(core, line.field(0), line.field(k))
+    place_of_first(core, column, line.field(0), line.field(k))
 }
 
 /// Whether two places are the same.
