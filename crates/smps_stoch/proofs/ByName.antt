@@ -9,7 +9,7 @@ use Rattle.std.proofs.lemmas.Slice.Eq.{bytes_eq-Decides}
 use Rattle.smps_words.specs.TextLines.{TextLine, field, no_line}
 use Rattle.stoch_lines.proofs.Adding.{blocks_more}
 use Rattle.stoch_lines.proofs.Positions.{some_passes}
-use Rattle.stoch_lines.specs.Before.{block_names_in, blocks_of, section_of}
+use Rattle.stoch_lines.specs.Before.{blocks_of, section_of}
 use Rattle.stoch_lines.specs.Sayings.{is_block_line, with_name}
 use Rattle.smps_stoch.specs.LawWords.{block_at, is_block_at, line_at, AreByName}
 use Rattle.smps_stoch.proofs.Numbering.{known_more, known_now, new_number, old_number}

@@ -17,7 +17,7 @@ use Rattle.smps_stoch.specs.LawWords.{begun_up_to, entries_on, line_at, section_
 use Rattle.smps_stoch.specs.StochData.{entries_at}
 use Rattle.smps_stoch.proofs.AnyEntry.{facts_to}
 use Rattle.smps_stoch.proofs.ByElement.{by_element}
-use Rattle.smps_stoch.proofs.LineEntries.{choice_in, last_begun, last_one, owned_is, owner}
+use Rattle.smps_stoch.proofs.LineEntries.{choice_in, last_one, owned_is, owner}
 use Rattle.smps_stoch.proofs.ToldAt.{at_told, told_at}
 
 module _ {X Y : Type 0} (p : X → Bool) (f : X → Y) where
