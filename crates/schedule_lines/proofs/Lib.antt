@@ -1,0 +1,4 @@
+mod Answering
+mod Numerals
+mod Telling
+mod Within
