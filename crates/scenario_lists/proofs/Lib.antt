@@ -7,6 +7,7 @@ mod Marks
 pub mod Nesting
 mod Distinctness
 mod Order
+mod OwnMarks
 mod Rows
 mod ScenarioValues
 mod WeightSums

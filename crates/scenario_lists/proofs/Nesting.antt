@@ -1,22 +1,22 @@
 -- Marks that are equal at a stage are equal at the stage before, and no two scenarios have the same mark at the last stage.
-use Rattle.std.proofs.Common.{arith, refl, ◌≡◌, ◌<◌, ◌≤◌, ◌+◌, ◌*◌, ◌-◌, ◌/◌, ◌%◌, ℕ, zero, suc, Bool, true, false, if◌then◌else◌, max, nat_le, ap, ◌∙◌, sym, subst, length, List, [], ◌∷◌, ◌++◌, map, get_or, drop, inl, inr, Option, Some, None}
+use Rattle.std.proofs.Common.{arith, refl, ◌≡◌, ◌<◌, ◌≤◌, ◌+◌, ◌*◌, ◌-◌, ◌/◌, ◌%◌, ℕ, zero, suc, Bool, true, false, if◌then◌else◌, max, nat_le, ap, ◌∙◌, sym, subst, length, List, [], ◌∷◌, ◌++◌, get_or, drop, inl, inr, Option, Some, None}
 use Rattle.std.proofs.lemmas.List.{get_or_append_left, get_or_default, length_push, same_lists}
 use Rattle.std.proofs.lemmas.Bool.{cases_lt}
 use Rattle.std.proofs.lemmas.List.FromFn.{get_or-map-range_with_len, length-map-range_with_len}
 use Rattle.std.proofs.Math.Nat.{div-add-mod, mod-lt}
 use Rattle.std.proofs.Math.Seq.{get_or-append_seam}
-use Rattle.std.specs.List.{All, fold, range_with_len}
+use Rattle.std.specs.List.{All, fold}
 use Rattle.smps_stoch.specs.StochFacts.{IsEarlier, no_branch}
 use Rattle.smps_stoch.specs.declared.stoch.Branch.{Branch}
 use Rattle.smps_stoch.specs.declared.stoch.Element.{Element}
 use Rattle.smps_stoch.specs.declared.stoch.Stoch.{Stoch}
 use Rattle.smps_stoch.specs.declared.stoch.Stoch.TheVariants.{Product, Scenarios}
 use Rattle.tree_core.specs.Marks.{AreNested, mark_of}
-use Rattle.scenario_lists.specs.Combinations.{Agree, choices_of, combinations, mark_in, no_element}
+use Rattle.scenario_lists.specs.Combinations.{choices_of, combinations, mark_in, no_element}
 use Rattle.scenario_lists.specs.Nesting.{HavePeriods}
 use Rattle.scenario_lists.specs.ScenarioList.{HaveAllParents, HaveParents, branch_marks, count_of, inherited_mark, mark_beside, marks_beside, marks_of, product_marks, product_marks_at, with_marks}
 use Rattle.scenario_lists.proofs.Agreement.{marks_agree}
-use Rattle.scenario_lists.proofs.Digits.{are_choices, factor_positive, quotient_below}
+use Rattle.scenario_lists.proofs.Digits.{are_choices, factor_positive}
 
 -- combinations
 
@@ -83,10 +83,10 @@ record IsOwned (stages : ℕ) (made : List (List ℕ)) : Type 0 where
   owned : (t s : ℕ) → 1 ≤ t → t < stages → s < length made → mark_of made t s ≡ through made t (mark_of made (t + 1) s)
   low : (t s : ℕ) → 1 ≤ t → t ≤ stages → s < length made → mark_of made t s ≤ s + 1
 
-old_mark : (made : List (List ℕ)) (row : List ℕ) (t s : ℕ) → s < length made → mark_of (made ++ row ∷ []) t s ≡ mark_of made t s
+pub old_mark : (made : List (List ℕ)) (row : List ℕ) (t s : ℕ) → s < length made → mark_of (made ++ row ∷ []) t s ≡ mark_of made t s
 old_mark made row t s lt = ap (λ (r : List ℕ). get_or r (t - 1) 0) (get_or_append_left made (row ∷ []) [] s lt)
 
-new_mark : (stages : ℕ) (made : List (List ℕ)) (b : Branch) (t : ℕ) → 1 ≤ t → t ≤ stages → mark_of (with_marks stages made b) t (length made) ≡ mark_beside made b t
+pub new_mark : (stages : ℕ) (made : List (List ℕ)) (b : Branch) (t : ℕ) → 1 ≤ t → t ≤ stages → mark_of (with_marks stages made b) t (length made) ≡ mark_beside made b t
 new_mark stages made b t first last =
     ap (λ (r : List ℕ). get_or r (t - 1) 0) (get_or-append_seam made (marks_beside stages made b) [] [])
     ∙ get_or-map-range_with_len (mark_beside made b) 1 stages (t - 1) t 0 (omega (arith, first, last)) (omega (arith, first))
@@ -123,7 +123,7 @@ new_low stages made b t known earlier first last = by_test (nat_le (max 2 b.peri
     by_test true = omega arith
     by_test false = omega (arith, inherited_low stages made b.parent t known earlier first last)
 
-pushed_long : (stages : ℕ) (made : List (List ℕ)) (b : Branch) → length (with_marks stages made b) ≡ length made + 1
+pub pushed_long : (stages : ℕ) (made : List (List ℕ)) (b : Branch) → length (with_marks stages made b) ≡ length made + 1
 pushed_long stages made b = length_push made (marks_beside stages made b)
 
 step_owned : (stages : ℕ) (made : List (List ℕ)) (b : Branch) → IsOwned stages made → IsEarlier b.parent (length made) → IsOwned stages (with_marks stages made b)

@@ -1,6 +1,6 @@
 -- Leaving out the entries of columns that don't stay first or last comes to the same, and how many entries a part of the scenarios has at most.
-use Rattle.std.proofs.Common.{arith, refl, sym, ap, subst, ◌∙◌, ◌≡◌, ℕ, zero, suc, ◌+◌, ◌<◌, ◌≤◌, ◌==◌, ◌&&◌, ◌||◌, Bool, true, false, cond, List, [], ◌∷◌, ◌++◌, length, map, get_or, take, drop, Option, Some, None, if◌then◌else◌}
-use Rattle.std.specs.List.{filter, fold, list_any, range_with_len, sum_by}
+use Rattle.std.proofs.Common.{arith, refl, sym, ap, ◌∙◌, ◌≡◌, ℕ, zero, suc, ◌+◌, ◌<◌, ◌≤◌, ◌==◌, ◌||◌, Bool, true, false, cond, List, [], ◌∷◌, ◌++◌, length, map, get_or, take, drop, Option, Some, None, if◌then◌else◌}
+use Rattle.std.specs.List.{fold, range_with_len}
 use Rattle.std.proofs.lemmas.List.{append-nil, append_assoc, map-append, take-append-drop}
 use Rattle.std.proofs.lemmas.List.Elements.{filter-append, filter_more}
 use Rattle.std.proofs.lemmas.List.FromFn.{take-map-range_with_len}
@@ -13,8 +13,8 @@ use Rattle.stoch_lines.specs.declared.places.StochPlace.TheVariants.{Cost, Cell,
 use Rattle.smps_stoch.specs.declared.stoch.Branch.{Branch}
 use Rattle.smps_stoch.specs.declared.stoch.Element.{Element}
 use Rattle.scenario_lists.specs.Combinations.{combinations}
-use Rattle.scenario_lists.specs.Distinct.{first_of_each, has_place, is_of, with_entry}
-use Rattle.scenario_lists.specs.Live.{entry_count, live_beside, live_branches, live_entries, live_products, live_scenario, live_scenarios, stays_in, with_live}
+use Rattle.scenario_lists.specs.Distinct.{first_of_each, has_place, with_entry}
+use Rattle.scenario_lists.specs.Live.{entry_count, live_beside, live_branches, live_entries, live_products, live_scenario, stays_in, with_live}
 use Rattle.scenario_lists.specs.ScenarioList.{branch_scenarios, inherited, no_scenario, product_scenario_at, scenario_beside, with_branch}
 use Rattle.scenario_lists.specs.declared.data.ScenarioData.{ScenarioData}
 use Rattle.scenario_lists.proofs.Rows.{next_folded, next_made}

@@ -1,6 +1,6 @@
 -- What the values and weights of scenarios come from: parents, choices and the weights of
 -- realisations.
-use Rattle.std.specs.Prelude.{◌≡◌, ℕ, ◌*◌, List, [], ◌∷◌, Option, Some, None, slice_index_or, unsigned_abs}
+use Rattle.std.specs.Prelude.{ℕ, ◌*◌, List, [], ◌∷◌, Option, Some, None, slice_index_or, unsigned_abs}
 use Rattle.std.specs.List.{sum_by}
 use Rattle.dec_core.specs.declared.decimal.Decimal.{Decimal}
 use Rattle.stoch_lines.specs.declared.places.StochPlace.{StochPlace}

@@ -75,6 +75,7 @@ pub fn branch_scenarios(
     ensures few { IfOk result (λ made. entry_count made ≤ limit) }
     ensures err { IfErr result
         (ByExcess (limit < entry_count (live_branches live.now branches.now))) }
+    ensures asked { IfErr result (λ _. 0 < length branches.now) }
 {
     let mut made = List::new(alloc);
     let mut left = limit;
@@ -149,6 +150,7 @@ pub fn branch_marks(
     requires few { length branches.now ≤ max_scenarios }
     ensures marks { IfOk result (λ made. made ≡ branch_marks stages branches.now) }
     ensures rows { IfOk result (λ made. AreRows stages made) }
+    ensures asked { IfErr result (λ _. 0 < length branches.now) }
 {
     let mut made = List::new(alloc);
     for k in 0..branches.len() {

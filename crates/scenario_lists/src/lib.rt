@@ -19,7 +19,9 @@ mod value_laws;
 pub use counting::{MAX_SCENARIOS, TooMany, scenario_count};
 pub use data::ScenarioData;
 pub use fault::ListFault;
-pub use laws::{combinations_in_order, marks_branch, marks_of_agreeing, places_differ};
+pub use laws::{
+    combinations_in_order, marks_are_own_or_parents, marks_branch, marks_of_agreeing, places_differ,
+};
 pub use listing::{scenario_marks, scenarios};
 pub use value_laws::{values_are_chosen_or_first, values_are_own_or_parents, weights_multiply};
 

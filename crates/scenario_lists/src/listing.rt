@@ -44,6 +44,7 @@ fn product_scenarios(
     ensures few { IfOk result (λ made. entry_count made ≤ limit) }
     ensures err { IfErr result
         (ByExcess (limit < entry_count (live_products live.now elements.now))) }
+    ensures asked { IfErr result (λ _. 0 < count) }
 {
     let mut made = List::new(alloc);
     let mut left = limit;
@@ -87,6 +88,7 @@ fn product_marks(
     requires few { count ≤ max_scenarios }
     ensures marks { IfOk result (λ made. made ≡ product_marks stages elements.now) }
     ensures rows { IfOk result (λ made. AreRows stages made) }
+    ensures asked { IfErr result (λ _. 0 < count) }
 {
     let mut made = List::new(alloc);
     for number in 0..count {
@@ -99,8 +101,9 @@ fn product_marks(
 /// The scenarios in order, of which there are `count`: all combinations with
 /// the last element varying fastest, or the file's list, each with its parent's
 /// entries for places that it has none of. Entries of columns that `live` says
-/// don't stay are left out. `TooManyEntries` comes exactly where more than
-/// `limit` entries stay in all scenarios together, and before more are kept.
+/// don't stay are left out. `TooManyEntries` comes only where more than `limit`
+/// entries stay in all scenarios together, and there they are never listed. Where
+/// there are no scenarios, there is no error.
 pub fn scenarios(
     alloc: Global,
     stoch: &Stoch,
@@ -114,6 +117,7 @@ pub fn scenarios(
     ensures few { IfOk result (λ made. entry_count made ≤ limit) }
     ensures err { IfErr result
         (ByExcess (limit < entry_count (live_scenarios live.now stoch.now))) }
+    ensures asked { IfErr result (λ _. 0 < count) }
 {
     match stoch {
         Stoch::Product(elements) => product_scenarios(alloc, elements, live, count, limit),
@@ -123,7 +127,7 @@ pub fn scenarios(
 
 /// The marks of the scenarios at each stage: two scenarios share a node of a
 /// stage exactly where their marks are equal. There are as many marks of each
-/// as there are stages.
+/// as there are stages. Memory isn't refused where there are no scenarios.
 pub fn scenario_marks(
     alloc: Global,
     stages: u8,
@@ -135,6 +139,7 @@ pub fn scenario_marks(
     requires parents { HaveAllParents stoch.now }
     ensures marks { IfOk result (λ made. made ≡ marks_of stages stoch.now) }
     ensures rows { IfOk result (λ made. AreRows stages made) }
+    ensures asked { IfErr result (λ _. 0 < count) }
 {
     match stoch {
         Stoch::Product(elements) => product_marks(alloc, stages, elements, count),
