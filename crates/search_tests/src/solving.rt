@@ -35,9 +35,10 @@ fn crossed(
     by: i128,
     rows: &[Row],
 ) -> Result<Option<Boxed>, AllocError> {
+    let count = u32::try_from(rows.len()).unwrap_or(0);
     let mut entries = List::new(alloc);
     for (column, value) in [(0, 1), (1, by)] {
-        for row in 0..rows.len() as u32 {
+        for row in 0..count {
             entries.push((row, column, value))?;
         }
     }
