@@ -13,7 +13,7 @@ option_or_assoc : {B : Type 0} (a b c : Option B) → option_or a (option_or b c
 option_or_assoc None b c = refl
 option_or_assoc (Some v) b c = refl
 
-option_or_none : {B : Type 0} (a : Option B) → option_or a None ≡ a
+pub option_or_none : {B : Type 0} (a : Option B) → option_or a None ≡ a
 option_or_none None = refl
 option_or_none (Some v) = refl
 

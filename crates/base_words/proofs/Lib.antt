@@ -1,3 +1,4 @@
+pub mod Booleans
 pub mod Comparisons
 pub mod FirstAnswers
 pub mod Gathering

@@ -1,6 +1,6 @@
 -- sums over the numbers below n, and over a list that has each of these numbers once.
 
-use Rattle.std.proofs.Common.{arith, refl, sym, ap, ◌∙◌, ◌≡◌, ℕ, zero, suc, ◌+◌, ◌<◌, ◌==◌, Bool, true, false, cond, List, [], ◌∷◌, ◌++◌, ℤ, pos, ◌+ℤ◌, ◌*ℤ◌}
+use Rattle.std.proofs.Common.{arith, refl, sym, ap, ◌∙◌, ◌≡◌, ℕ, zero, suc, ◌+◌, ◌<◌, ◌≤◌, ◌==◌, Bool, true, false, cond, List, [], ◌∷◌, ◌++◌, take, ℤ, pos, ◌+ℤ◌, ◌*ℤ◌}
 use Rattle.std.proofs.lemmas.Int.{ints}
 use Rattle.std.proofs.lemmas.List.Sums.{sum_by-cons}
 use Rattle.std.specs.List.{AllByRecursion, count_by, range_with_len}
@@ -92,3 +92,9 @@ by_times f n (y ∷ ys) h =
 pub sum_below_once : (f : ℕ → ℤ) (n : ℕ) (ys : List ℕ) → AllByRecursion (λ y. y < n) ys → ((k : ℕ) → k < n → count_by (λ y. y == k) ys ≡ 1) → sum_below n f ≡ sum_z f ys
 sum_below_once f n ys below once =
     sym (by_times f n ys below ∙ sum_below-same n (times_of f ys) f (λ k l. ap (λ m. pos m *ℤ f k) (once k l) ∙ *ℤ_comm (pos 1) (f k) ∙ times_one (f k)))
+
+-- the first numbers of a range
+pub take_range : (a n k : ℕ) → k ≤ n → take k (range_with_len a n) ≡ range_with_len a k
+take_range a n zero h = refl
+take_range a zero (suc k) h = absurd (omega arith)
+take_range a (suc n) (suc k) h = ap (λ xs. a ∷ xs) (take_range (a + 1) n k (omega arith))

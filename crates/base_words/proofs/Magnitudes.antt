@@ -1,6 +1,6 @@
 -- magnitudes of signed numbers: those of sums, differences and products, and when a number fits its bits
 
-use Rattle.std.proofs.Common.{arith, ap, ◌∙◌, ◌+◌, ◌*◌, ◌^◌, ◌<◌, ◌≤◌, max, ℤ, pos, negsuc, ◌+ℤ◌, ◌-ℤ◌, ◌*ℤ◌, ◌≤ℤ◌, ◌<ℤ◌, FitsSigned, w64, unsigned_abs}
+use Rattle.std.proofs.Common.{arith, refl, ap, ◌∙◌, ◌≡◌, zero, suc, ◌+◌, ◌*◌, ◌^◌, ◌<◌, ◌≤◌, max, ℤ, pos, negsuc, ◌+ℤ◌, ◌-ℤ◌, ◌*ℤ◌, ◌≤ℤ◌, ◌<ℤ◌, FitsSigned, w64, unsigned_abs, neg_ℤ}
 use Rattle.std.proofs.lemmas.Int.{ints, fits_signed_from_abs, fits_signed_mul, unsigned_abs-mul}
 use Rattle.std.specs.Int.{w128}
 
@@ -12,11 +12,17 @@ abs-add (negsuc a) (pos b) = omega (arith, ints)
 abs-add (negsuc a) (negsuc b) = omega (arith, ints)
 
 -- the magnitude of a difference
-abs-less : (a b : ℤ) → unsigned_abs (a -ℤ b) ≤ unsigned_abs a + unsigned_abs b
+pub abs-less : (a b : ℤ) → unsigned_abs (a -ℤ b) ≤ unsigned_abs a + unsigned_abs b
 abs-less (pos a) (pos b) = omega (arith, ints)
 abs-less (pos a) (negsuc b) = omega (arith, ints)
 abs-less (negsuc a) (pos b) = omega (arith, ints)
 abs-less (negsuc a) (negsuc b) = omega (arith, ints)
+
+-- the magnitude of the opposite
+pub abs_opposite : (a : ℤ) → unsigned_abs (neg_ℤ a) ≡ unsigned_abs a
+abs_opposite (pos zero) = refl
+abs_opposite (pos (suc n)) = refl
+abs_opposite (negsuc n) = refl
 
 -- a number between two ends is no greater than the greater of them
 pub abs_between : (l u x : ℤ) → l ≤ℤ x → x ≤ℤ u → unsigned_abs x ≤ max (unsigned_abs l) (unsigned_abs u)
@@ -34,18 +40,18 @@ pub fits_from_abs : (z : ℤ) → unsigned_abs z ≤ 2 ^ 126 → FitsSigned w128
 fits_from_abs z h = fits_signed_from_abs w128 z (omega arith)
 
 -- a product, and one with a square, fit where their magnitude is small
-pub product_fits : (a x : ℤ) → unsigned_abs a * unsigned_abs x ≤ 2 ^ 122 → FitsSigned w128 (a *ℤ x)
+pub product_fits : (a x : ℤ) → unsigned_abs a * unsigned_abs x ≤ 2 ^ 125 → FitsSigned w128 (a *ℤ x)
 product_fits a x h = fits_from_abs (a *ℤ x) (omega (arith, unsigned_abs-mul a x))
 
-pub square_fits : (a x : ℤ) → unsigned_abs a * (unsigned_abs x * unsigned_abs x) ≤ 2 ^ 122 → FitsSigned w128 (a *ℤ (x *ℤ x))
+pub square_fits : (a x : ℤ) → unsigned_abs a * (unsigned_abs x * unsigned_abs x) ≤ 2 ^ 125 → FitsSigned w128 (a *ℤ (x *ℤ x))
 square_fits a x h = fits_from_abs (a *ℤ (x *ℤ x)) (omega (arith, unsigned_abs-mul a (x *ℤ x) ∙ ap (λ n. unsigned_abs a * n) (unsigned_abs-mul x x)))
 
 -- twice a number of small magnitude fits
-pub double_fits : (a : ℤ) → unsigned_abs a ≤ 2 ^ 122 → FitsSigned w128 (a +ℤ a)
+pub double_fits : (a : ℤ) → unsigned_abs a ≤ 2 ^ 125 → FitsSigned w128 (a +ℤ a)
 double_fits a h = fits_from_abs (a +ℤ a) (omega (arith, abs-add a a))
 
 -- a difference of numbers of small magnitude fits
-pub less_fits : (a b : ℤ) → unsigned_abs a ≤ 2 ^ 122 → unsigned_abs b ≤ 2 ^ 122 → FitsSigned w128 (a -ℤ b)
+pub less_fits : (a b : ℤ) → unsigned_abs a ≤ 2 ^ 125 → unsigned_abs b ≤ 2 ^ 125 → FitsSigned w128 (a -ℤ b)
 less_fits a b h k = fits_from_abs (a -ℤ b) (omega (arith, abs-less a b))
 
 -- the square of a 64-bit number fits

@@ -1,6 +1,6 @@
 -- What tests of natural numbers say.
 
-use Rattle.std.proofs.Common.{arith, ◌≡◌, ℕ, ◌<◌, ◌≤◌, nat_le, nat_lt, true, false}
+use Rattle.std.proofs.Common.{arith, ◌≡◌, ◌==◌, ℕ, ◌<◌, ◌≤◌, nat_le, nat_lt, true, false}
 
 pub less_from_test : (a b : ℕ) → nat_lt a b ≡ true → a < b
 less_from_test a b e = grind arith
@@ -20,3 +20,10 @@ some_from_test a e = grind arith
 
 pub none_from_test : (a : ℕ) → nat_le 1 a ≡ false → a ≡ 0
 none_from_test a e = grind arith
+
+-- numbers that are told the same are equal
+pub same_from_test : (a b : ℕ) → (a == b) ≡ true → a ≡ b
+same_from_test a b e = grind arith
+
+pub test_from_same : (a b : ℕ) → a ≡ b → (a == b) ≡ true
+test_from_same a b e = grind arith

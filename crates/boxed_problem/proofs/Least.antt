@@ -51,7 +51,7 @@ best_after-is b best (x ∷ xs) = best_after-is b (better b best x) xs ∙ by_te
     by_test true h = merged_one b best x (first_least b (filter (meets_all b) xs))
     by_test false h = refl
 
-merged_none : (o : Option Best) → merged None o ≡ o
+pub merged_none : (o : Option Best) → merged None o ≡ o
 merged_none None = refl
 merged_none (Some r) = refl
 

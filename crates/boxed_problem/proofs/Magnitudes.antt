@@ -25,7 +25,7 @@ abs-curve line square x =
     let q = unsigned_abs-mul square (x *ℤ x) ∙ ap (λ n. unsigned_abs square * n) (unsigned_abs-mul x x) in
     omega (arith, p, q, abs-add (line *ℤ x) (square *ℤ (x *ℤ x)))
 
-pub curve_fits : (line square x : ℤ) → unsigned_abs line * unsigned_abs x + unsigned_abs square * (unsigned_abs x * unsigned_abs x) ≤ 2 ^ 122 → FitsSigned w128 (curve line square x)
+pub curve_fits : (line square x : ℤ) → unsigned_abs line * unsigned_abs x + unsigned_abs square * (unsigned_abs x * unsigned_abs x) ≤ 2 ^ 125 → FitsSigned w128 (curve line square x)
 curve_fits line square x h = fits_from_abs (curve line square x) (omega (arith, abs-curve line square x))
 
 -- what a column adds has at most the column's magnitude
@@ -45,7 +45,7 @@ pub column_within : (columns : List Side) (line square x : List ℤ) (j : ℕ) �
 column_within columns line square x j i h = curve_size (number_at line j) (number_at square j) (number_at x j) (reach (side_at columns j)) (reach_bounds columns x j i h)
 
 pub column_fits : (columns : List Side) (constant : ℤ) (line square x : List ℤ) (j : ℕ) → InBox columns x → j < length columns → value_size columns constant line square ≤ 2 ^ 122 →
-    unsigned_abs (number_at line j) * unsigned_abs (number_at x j) + unsigned_abs (number_at square j) * (unsigned_abs (number_at x j) * unsigned_abs (number_at x j)) ≤ 2 ^ 122
+    unsigned_abs (number_at line j) * unsigned_abs (number_at x j) + unsigned_abs (number_at square j) * (unsigned_abs (number_at x j) * unsigned_abs (number_at x j)) ≤ 2 ^ 125
 column_fits columns constant line square x j i h f =
     omega (arith, column_within columns line square x j i h, size_below-part (length columns) (column_size columns line square) j h)
 

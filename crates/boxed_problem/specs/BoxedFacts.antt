@@ -53,9 +53,13 @@ abbrev pub row_size : List Side → List Limits → List Entry → ℕ → ℕ
 row_size columns rows entries i =
     limits_size (limits_at rows i) + sum_by (entry_size columns i) entries
 
--- ascending by column, and by row within a column
+-- an entry stands before another: by column, and by row within a column
 abbrev pub ComesBefore : Entry → Entry → Type 0
 ComesBefore e f = (e.column ≤ f.column) × (e.column ≡ f.column → e.row < f.row)
+
+-- ascending by column, and by row within a column
+abbrev pub AreAscending : List Entry → Type 0
+AreAscending es = (k : ℕ) → k + 1 < length es → ComesBefore (entry_at es k) (entry_at es (k + 1))
 
 -- the facts that a problem keeps
 pub record IsBoxed (columns : List Side) (rows : List Limits) (entries : List Entry) (constant : ℤ)
@@ -65,7 +69,6 @@ pub record IsBoxed (columns : List Side) (rows : List Limits) (entries : List En
   pub filled : All (λ s. s.lower ≤ℤ s.upper) columns
   pub convex : All (λ q. pos 0 ≤ℤ q) square
   pub places : All (λ e. (e.row < length rows) × (e.column < length columns)) entries
-  pub ascending : (k : ℕ) → k + 1 < length entries
-      → ComesBefore (entry_at entries k) (entry_at entries (k + 1))
+  pub ascending : AreAscending entries
   pub value_fits : value_size columns constant line square ≤ 2 ^ 122
   pub rows_fit : (i : ℕ) → i < length rows → row_size columns rows entries i ≤ 2 ^ 122

@@ -9,7 +9,7 @@ use wide_num::List;
 /// What a column adds to the objective at the value `x`.
 pub fn column_value(line: i128, square: i128, x: i64) -> i128
     requires { unsigned_abs line * unsigned_abs x + unsigned_abs square *
-        (unsigned_abs x * unsigned_abs x) ≤ 2 ^ 122 }
+        (unsigned_abs x * unsigned_abs x) ≤ 2 ^ 125 }
     ensures { result ≡ curve line square x }
 {
     let x = i128::from(x);

@@ -16,7 +16,7 @@ use Rattle.boxed_problem.specs.declared.parts.Best.{Best}
 use Rattle.boxed_problem.specs.declared.parts.Side.{Side}
 use Rattle.base_words.proofs.Comparisons.{above_from_test, below_from_test, left_fails, right_fails, test_from_below, test_from_above}
 use Rattle.branch_bound.proofs.HalfLaws.{cut_of, filled_cut, narrower}
-use Rattle.boxed_problem.proofs.Least.{best_after, best_after-is, merged}
+use Rattle.boxed_problem.proofs.Least.{best_after, best_after-is, merged, merged_none}
 use Rattle.boxed_problem.proofs.Listing.{on_in}
 use Rattle.boxed_problem.proofs.Members.{listed_on}
 use Rattle.boxed_problem.proofs.Optimal.{best_is}
@@ -28,10 +28,6 @@ use Rattle.branch_bound.specs.Narrowing.{IsBar, NoneBelow, NotPast}
 pub record Ahead (start : Option Best) (p q : Progress) : Type 0 where
   pub best : p.best ≡ merged start q.best
   pub opened : p.opened ≤ q.opened
-
-merged_nothing : (o : Option Best) → merged None o ≡ o
-merged_nothing None = refl
-merged_nothing (Some r) = refl
 
 lower_three : (a p r : Best) → lower_of (lower_of a (Some p)) (Some r) ≡ lower_of a (Some (lower_of p (Some r)))
 lower_three a p r = by_tests (int_lt p.value a.value) (int_lt r.value p.value) (int_lt r.value a.value) refl refl refl
@@ -148,8 +144,8 @@ not_past-trans p q r h k = record { best = h.best ∙ k.best; opened = omega (ar
 -- the plain search keeps a search not past another
 pub not_past-search : (b : Problem) (box : List Side) (p q : Progress) → Filled box → NotPast p q → NotPast (search b box p) (search b box q)
 not_past-search b box p q f h =
-    let a = ahead_search b None box p q f (record { best = h.best ∙ sym (merged_nothing q.best); opened = h.opened }) in
-    record { best = a.best ∙ merged_nothing (search b box q).best; opened = a.opened }
+    let a = ahead_search b None box p q f (record { best = h.best ∙ sym (merged_none q.best); opened = h.opened }) in
+    record { best = a.best ∙ merged_none (search b box q).best; opened = a.opened }
 
 pub not_past-all : (b : Problem) (boxes : List (List Side)) (p q : Progress) → AllByRecursion Filled boxes → NotPast p q → NotPast (search_all b boxes p) (search_all b boxes q)
 not_past-all b [] p q f h = h
@@ -185,7 +181,7 @@ pub ahead_done : (b : Problem) (start best : Option Best) (n : ℕ) → Filled b
 ahead_done b start best n f k a = sym (a.best ∙ (ap (λ o. merged start o) (search_finds b f) ∙ beaten start (best_of b) k (best_is b (best_of b) f refl)))
   where
     beaten : (start o : Option Best) → IsBar b start → IsBest b o → merged start o ≡ o
-    beaten None o k h = merged_nothing o
+    beaten None o k h = merged_none o
     beaten (Some bar) None k h = absurd (h k.0 k.1)
     beaten (Some bar) (Some r) k h =
         let least = h.least k.0 k.1 in

@@ -1,5 +1,5 @@
 -- Down the halving tree to a box that holds the sides.
-use Rattle.std.proofs.Common.{arith, refl, ap, sym, subst, ◌∙◌, ◌≡◌, ℕ, zero, suc, ◌==◌, Bool, true, false, not, ◌&&◌, ◌||◌, length, List, [], ◌∷◌, ℤ, pos, ◌*ℤ◌, ◌≤ℤ◌, Option, Some, None, if◌then◌else◌}
+use Rattle.std.proofs.Common.{arith, refl, ap, sym, subst, ◌∙◌, ◌≡◌, ℕ, zero, suc, ◌==◌, Bool, true, false, not, ◌&&◌, length, List, [], ◌∷◌, ℤ, pos, ◌*ℤ◌, ◌≤ℤ◌, Option, Some, if◌then◌else◌}
 use Rattle.std.proofs.lemmas.Int.{ints, clamps}
 use Rattle.std.specs.Int.{int_max, int_min}
 use Rattle.boxed_problem.specs.Data.{Problem}
@@ -19,7 +19,7 @@ use Rattle.boxed_problem.specs.declared.parts.Best.{Best}
 use Rattle.boxed_problem.specs.declared.parts.Entry.{Entry}
 use Rattle.boxed_problem.specs.declared.parts.Limits.{Limits}
 use Rattle.boxed_problem.specs.declared.parts.Side.{Side}
-use Rattle.base_words.proofs.Comparisons.{above_from_test, both, both_left, both_right, most_from_test, not_not, test_from_above, test_from_most}
+use Rattle.base_words.proofs.Comparisons.{above_from_test, both, both_left, both_right, not_not, test_from_above}
 use Rattle.branch_bound.proofs.HalfLaws.{Cut, after, cut_of, filled_cut, here}
 use Rattle.boxed_problem.proofs.Least.{best_after}
 use Rattle.safe_bound.proofs.LeastLaws.{least_on-holds, least_on-le, sum_below-order}
@@ -27,7 +27,8 @@ use Rattle.boxed_problem.proofs.Listing.{in_on}
 use Rattle.branch_bound.proofs.HalfLaws.{cut_within}
 use Rattle.boxed_problem.proofs.Lying.{filled_at, within_at, within_self, within_trans}
 use Rattle.base_words.proofs.Products.{times_between}
-use Rattle.propagate.proofs.RangeLaws.{either_left, either_right}
+use Rattle.base_words.proofs.Booleans.{either_false}
+use Rattle.propagate.proofs.RangeLaws.{either_left, either_right, above_more, below_less}
 use Rattle.propagate.proofs.Widening.{high_falls, low_rises}
 use Rattle.branch_bound.proofs.SearchLaws.{improves_less, search_best, search_on}
 use Rattle.branch_bound.specs.Narrowing.{Descends, KeepsBetter, NoneBelow, NotPast}
@@ -51,29 +52,17 @@ on_apart (after s q c) (v ∷ x) h k = on_apart c x h.1 k.1
 pub apart : (box : List Side) (h : Halves) (x : List ℤ) → halves box ≡ Some h → InBox h.low x → InBox h.high x → ⊥
 apart box h x e k l = on_apart (cut_of box h e) x (in_on h.low x k) (in_on h.high x l)
 
-above_wider : (o : Option ℤ) (a b : ℤ) → a ≤ℤ b → is_above o a ≡ true → is_above o b ≡ true
-above_wider None a b h e = refl
-above_wider (Some l) a b h e = let k = most_from_test l a e in test_from_most l b (omega (arith, ints))
-
-below_wider : (o : Option ℤ) (a b : ℤ) → a ≤ℤ b → is_below o b ≡ true → is_below o a ≡ true
-below_wider None a b h e = refl
-below_wider (Some u) a b h e = let k = most_from_test b u e in test_from_most a u (omega (arith, ints))
-
 misses_wider : (limits : Limits) (low high down up : ℤ) → down ≤ℤ low → high ≤ℤ up → misses limits low high ≡ false → misses limits down up ≡ false
 misses_wider limits low high down up h k e =
     let t = not_not (is_above limits.lower high && is_below limits.upper low) e in
     ap not (both (is_above limits.lower up) (is_below limits.upper down)
-    (above_wider limits.lower high up k (both_left (is_above limits.lower high) (is_below limits.upper low) t))
-    (below_wider limits.upper down low h (both_right (is_above limits.lower high) (is_below limits.upper low) t)))
-
-neither : (p q : Bool) → p ≡ false → q ≡ false → (p || q) ≡ false
-neither true q h k = absurd cc
-neither false q h k = k
+    (above_more limits.lower high up k (both_left (is_above limits.lower high) (is_below limits.upper low) t))
+    (below_less limits.upper down low h (both_right (is_above limits.lower high) (is_below limits.upper low) t)))
 
 none_missed_wider : (n : ℕ) (rows : List Limits) (entries : List Entry) (inner outer : List Side) → Within inner outer → misses_one n rows entries inner ≡ false → misses_one n rows entries outer ≡ false
 none_missed_wider zero rows entries inner outer w e = refl
 none_missed_wider (suc n) rows entries inner outer w e =
-    neither (misses_one n rows entries outer) (misses (limits_at rows n) (low_activity entries outer n) (high_activity entries outer n))
+    either_false (misses_one n rows entries outer) (misses (limits_at rows n) (low_activity entries outer n) (high_activity entries outer n))
     (none_missed_wider n rows entries inner outer w (either_left (misses_one n rows entries inner) (misses (limits_at rows n) (low_activity entries inner n) (high_activity entries inner n)) e))
     (misses_wider (limits_at rows n) (low_activity entries inner n) (high_activity entries inner n) (low_activity entries outer n) (high_activity entries outer n)
     (low_rises entries inner outer n w)
@@ -92,7 +81,7 @@ least_wider b inner outer w =
 -- where the plain search wouldn't leave the sides, it doesn't leave a box that holds them
 pub not_pruned_wider : (b : Problem) (inner outer : List Side) (best : Option Best) → Within inner outer → is_pruned b inner best ≡ false → is_pruned b outer best ≡ false
 not_pruned_wider b inner outer best w e =
-    neither (misses_one (length b.rows) b.rows b.entries outer) (not (improves (least_value b outer) best))
+    either_false (misses_one (length b.rows) b.rows b.entries outer) (not (improves (least_value b outer) best))
     (none_missed_wider (length b.rows) b.rows b.entries inner outer w (either_left (misses_one (length b.rows) b.rows b.entries inner) (not (improves (least_value b inner) best)) e))
     (by_test (improves (least_value b outer) best) refl (not_not (improves (least_value b inner) best) (either_right (misses_one (length b.rows) b.rows b.entries inner) (not (improves (least_value b inner) best)) e)))
   where

@@ -15,9 +15,7 @@ use Rattle.branch_bound.specs.Frames.{IsOpen, SingleTo, clip, node_of, tree_box}
 use Rattle.branch_bound.specs.Narrowing.{KeepsBetter}
 use Rattle.branch_bound.proofs.Cutting.{keeps_set}
 use Rattle.propagate.proofs.Setting.{same_or_not, set_both, set_not_at, set_outer}
-
-abbrev side_with : ℤ → ℤ → Side
-side_with l u = record { lower = l; upper = u }
+use Rattle.propagate.proofs.TightLaws.{side_with}
 
 pub same_side : (s t : Side) → s.lower ≡ t.lower → s.upper ≡ t.upper → s ≡ t
 same_side s t e d = ap (λ l. side_with l s.upper) e ∙ ap (λ u. side_with t.lower u) d

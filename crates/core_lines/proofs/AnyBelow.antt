@@ -2,11 +2,8 @@
 use Rattle.std.proofs.Common.{◌≡◌, refl, sym, ◌∙◌, ap, ℕ, zero, suc, ◌+◌, ◌<◌, Bool, true, false, inl, inr, add-one, arith}
 use Rattle.std.specs.Prelude.{◌||◌}
 use Rattle.std.proofs.lemmas.Bool.{cases_eq}
+use Rattle.base_words.proofs.Booleans.{or_true}
 use Rattle.core_lines.specs.Boxes.{any_below}
-
-or_true : (b : Bool) → (b || true) ≡ true
-or_true true = refl
-or_true false = refl
 
 pub any_more : (n : ℕ) (p : ℕ → Bool) → any_below n p ≡ false → p n ≡ false → any_below (n + 1) p ≡ false
 any_more n p before now = ap (λ m. any_below m p) (add-one n) ∙ ap (λ b. b || p n) before ∙ now

@@ -4,6 +4,7 @@ use Rattle.std.specs.Prelude.{not, ◌&&◌, ◌||◌, Some, if◌then◌else◌
 use Rattle.std.proofs.lemmas.List.{append-nil}
 use Rattle.std.proofs.lemmas.List.Folds.{list_any-append}
 use Rattle.std.proofs.lemmas.List.Sums.{fold-append}
+use Rattle.base_words.proofs.Booleans.{or_false}
 use Rattle.smps_words.proofs.ToldLaws.{told_push}
 use Rattle.smps_words.specs.Outcomes.{all_told, last_or, first_or_none, GoesOn}
 use Rattle.smps_words.specs.Tables.{◌or◌}
@@ -33,10 +34,6 @@ last_append other xs ys = fold-append (λ last x. x) other xs ys
 first_append : {X : Type 0} (xs : List X) (y : X) → first_or_none (xs ++ y ∷ []) ≡ (first_or_none xs or Some y)
 first_append [] y = refl
 first_append (x ∷ xs) y = refl
-
-or_false : (b : Bool) → (b || false) ≡ b
-or_false true = refl
-or_false false = refl
 
 stood_push : (is : Section → Bool) (lines : List TextLine) (line : TextLine) → has_stood is (lines ++ line ∷ []) ≡ (has_stood is lines || (line.header && is (section_of_word line)))
 stood_push is lines line =

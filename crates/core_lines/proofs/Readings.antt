@@ -2,7 +2,7 @@
 use Rattle.core_lines.specs.declared.state.State.{State}
 use Rattle.line_core.specs.SplitLines.{lines_of}
 use Rattle.smps_words.proofs.Asking.{lines_ask}
-use Rattle.smps_words.specs.Memory.{MayRefuse}
+use Rattle.smps_words.specs.Memory.{MayRefuse, AreSome}
 use Rattle.std.proofs.Common.{◌≡◌, refl, sym, ◌∙◌, ap, ℕ, ◌+◌, ◌<◌, ◌≤◌, arith, Bool, List, [], ◌∷◌, length, drop, get_or}
 use Rattle.std.specs.Prelude.{Option, Err, Ok, Result}
 use Rattle.std.proofs.lemmas.Grind.{common_steps}
@@ -14,7 +14,7 @@ use Rattle.smps_words.specs.Outcomes.Outcome.{Faulty, Ended, Endless}
 use Rattle.smps_words.specs.TextLines.{TextLine, text_line, text_lines, last_number}
 use Rattle.core_lines.proofs.NextLaw.{goes_on}
 use Rattle.core_lines.specs.Lines.{before_of, line_fault, is_end, next}
-use Rattle.core_lines.specs.Meaning.{outcome_of, said_by, said_by_steps, Fails, AreSome, Gives, meaning, said_by_read}
+use Rattle.core_lines.specs.Meaning.{outcome_of, said_by, said_by_steps, Fails, Gives, meaning, said_by_read}
 use Rattle.core_lines.specs.Parts.{Before}
 use Rattle.core_lines.specs.Steps.{Refuses}
 use Rattle.core_lines.specs.declared.kinds.CoreFault.{CoreFault}

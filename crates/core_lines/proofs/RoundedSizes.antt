@@ -1,9 +1,10 @@
 -- The ends that a line of BOUNDS says are small, where its value isn't beyond the limit.
-use Rattle.std.proofs.Common.{◌≡◌, refl, sym, subst, ℕ, suc, zero, ◌*◌, ◌≤◌, ◌<◌, ◌^◌, true, false, mul_comm, arith}
+use Rattle.std.proofs.Common.{◌≡◌, refl, sym, subst, ℕ, ◌*◌, ◌≤◌, ◌<◌, ◌^◌, true, false, mul_comm, arith}
 use Rattle.std.proofs.Math.Nat.{div-le_of_le-mul, div-lt_iff_lt-mul}
 use Rattle.std.proofs.lemmas.Grind.{common_steps}
 use Rattle.std.specs.Prelude.{ℤ, pos, negsuc, neg_ℤ, unsigned_abs}
 use Rattle.std.specs.Int.{int_div_euclid}
+use Rattle.base_words.proofs.Magnitudes.{abs_opposite}
 use Rattle.dec_core.proofs.Powers.{power_positive}
 use Rattle.dec_core.specs.declared.decimal.Decimal.{Decimal}
 use Rattle.smps_words.specs.CoreFacts.{end_size, max_end}
@@ -18,19 +19,14 @@ floor_small : (m : ℤ) (b n : ℕ) → 0 < b → unsigned_abs m ≤ n * b → u
 floor_small (pos a) b n some le = div-le_of_le-mul b (subst (λ c. a ≤ c) (mul_comm n b) le)
 floor_small (negsuc a) b n some le = (div-lt_iff_lt-mul some).1 le
 
-turned_size : (m : ℤ) → unsigned_abs (neg_ℤ m) ≡ unsigned_abs m
-turned_size (pos zero) = refl
-turned_size (pos (suc n)) = refl
-turned_size (negsuc n) = refl
-
 within : (d : Decimal) → is_beyond (Finite d) ≡ false → unsigned_abs d.mantissa ≤ max_end * 10 ^ d.places
 within d off = grind (arith, common_steps)
 
 low_small : (v : BoundValue) → is_beyond v ≡ false → end_size (end_said (low_change v)) ≤ max_end
 low_small (Endless negative) off = omega arith
 low_small (Finite d) off =
-    subst (λ (n : ℕ). n ≤ max_end) (sym (turned_size (int_div_euclid (neg_ℤ d.mantissa) (pos (10 ^ d.places)))))
-    (floor_small (neg_ℤ d.mantissa) (10 ^ d.places) max_end (power_positive d.places) (subst (λ (n : ℕ). n ≤ max_end * 10 ^ d.places) (sym (turned_size d.mantissa)) (within d off)))
+    subst (λ (n : ℕ). n ≤ max_end) (sym (abs_opposite (int_div_euclid (neg_ℤ d.mantissa) (pos (10 ^ d.places)))))
+    (floor_small (neg_ℤ d.mantissa) (10 ^ d.places) max_end (power_positive d.places) (subst (λ (n : ℕ). n ≤ max_end * 10 ^ d.places) (sym (abs_opposite d.mantissa)) (within d off)))
 
 high_small : (v : BoundValue) → is_beyond v ≡ false → end_size (end_said (high_change v)) ≤ max_end
 high_small (Endless negative) off = omega arith

@@ -1,5 +1,5 @@
 -- What a core file says, or its first fault.
-use Rattle.std.specs.Prelude.{◌≡◌, ℕ, List, [], Option, Result, Ok, Err, ◌<◌, length}
+use Rattle.std.specs.Prelude.{◌≡◌, ℕ, List, [], Option, Result, Ok, Err}
 use Rattle.line_core.specs.SplitLines.{lines_of}
 use Rattle.line_core.specs.declared.line_list.Line.{Line}
 use Rattle.line_core.specs.declared.line_list.LineFault.{LineFault}
@@ -52,7 +52,3 @@ Fails asked (faults.At line kind) read = read ≡ Err (line, kind)
 abbrev pub Gives : Type 0 → Result State CoreFault → Result Before (ℕ × CoreKind) → Type 0
 Gives asked (Ok state) read = read ≡ Ok (before_in state)
 Gives asked (Err fault) read = Fails asked fault read
-
--- lines ask for memory where there are some
-abbrev pub AreSome : List Line → Type 0
-AreSome lines = 0 < length lines

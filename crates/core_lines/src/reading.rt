@@ -1,9 +1,9 @@
 ghost use Rattle.std.specs.Prelude.{◌≡◌, ℕ, []};
-ghost use Rattle.smps_words.specs.Memory.{MayRefuse};
+ghost use Rattle.smps_words.specs.Memory.{MayRefuse, AreSome};
 ghost use Rattle.smps_words.specs.TextLines.{last_number, text_lines};
 ghost use Rattle.core_lines.specs.Headers.{is_rights};
 ghost use Rattle.core_lines.specs.Lines.{before_of, bounds_of, columns_of, rows_of, sides_of};
-ghost use Rattle.core_lines.specs.Meaning.{AreSome, Gives, meaning, said_by, said_by_steps};
+ghost use Rattle.core_lines.specs.Meaning.{Gives, meaning, said_by, said_by_steps};
 ghost use Rattle.core_lines.specs.States.{before_in, bounds_in_part, columns_in, rows_in, sides_in_part};
 
 use crate::headers::Headers;

@@ -11,7 +11,7 @@ use Rattle.std.proofs.lemmas.List.Sums.{AllPass-from_list_all}
 use Rattle.std.proofs.lemmas.Str.{digit_value_digit}
 
 -- an item of a row of digits is a digit
-digit_range : (byte : ℕ) → is_ascii_digit byte ≡ true → IsInRange 48 57 byte
+pub digit_range : (byte : ℕ) → is_ascii_digit byte ≡ true → IsInRange 48 57 byte
 digit_range byte h = grind (arith, nat_tests)
 
 -- what an item of a row of digits is worth

@@ -1,4 +1,4 @@
-mod DigitLaws
+pub mod DigitLaws
 pub mod LimitLaws
 pub mod Powers
 mod ReadLaws

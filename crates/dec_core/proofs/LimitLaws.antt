@@ -1,5 +1,5 @@
 -- what is within the limits of a decimal
-use Rattle.std.proofs.Common.{◌≡◌, ℕ, ◌+◌, ◌-◌, ◌*◌, ◌^◌, ◌<◌, ◌≤◌, Bool, ◌⊎◌, inl, inr, min, true, false, Ok, Err, unsigned_abs, zero, suc, refl, ap, arith}
+use Rattle.std.proofs.Common.{◌≡◌, ℕ, ◌+◌, ◌-◌, ◌*◌, ◌^◌, ◌<◌, ◌≤◌, Bool, ◌⊎◌, inl, inr, min, Ok, Err, ap, arith}
 use Rattle.std.proofs.lemmas.Bool.{cases_lt}
 use Rattle.std.proofs.lemmas.Bool.Decides.{nat_tests}
 use Rattle.base_words.specs.Signs.{signed}
@@ -48,9 +48,3 @@ within_is n m p d e =
         | inr g ↦ (let f : within_limits n m p ≡ Ok (record { mantissa = signed n m; places = p }) = grind (arith, nat_tests) in (h, g, cc))
       ]
     ]
-
--- a sign leaves the magnitude
-pub magnitude_of : (n : Bool) (m : ℕ) → unsigned_abs (signed n m) ≡ m
-magnitude_of true zero = refl
-magnitude_of true (suc m) = refl
-magnitude_of false m = refl

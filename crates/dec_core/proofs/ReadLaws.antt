@@ -1,12 +1,13 @@
 -- a number read by its capped parts has the value that it is spelled with
 use Rattle.std.proofs.Common.{◌≡◌, ℕ, ◌+◌, ◌-◌, ◌*◌, ◌%◌, ◌^◌, ◌<◌, ◌≤◌, Bool, true, false, List, Option, Some, None, Result, Ok, Err, IfOk, pos, unsigned_abs, min, refl, sym, zero-mul, ap, ◌∙◌, arith}
 use Rattle.std.specs.Str.Parse.{digits_value}
+use Rattle.wide_num.proofs.LowestLemmas.{magnitude_of}
 use Rattle.dec_core.specs.Spelling.{Spelling, spelling_of, raised_by, lowered_by}
 use Rattle.dec_core.specs.Stripped.{IsStripped, max_significand, max_exponent}
 use Rattle.dec_core.specs.DecimalValue.{IsNormal, ReadsAs, decimal_of, within_limits, mantissa_of, places_of, decimal_of_spelling}
 use Rattle.dec_core.specs.declared.decimal.Decimal.{Decimal}
 use Rattle.dec_core.specs.declared.decimal.DecFault.{DecFault}
-use Rattle.dec_core.proofs.LimitLaws.{caps_agree, within_is, magnitude_of}
+use Rattle.dec_core.proofs.LimitLaws.{caps_agree, within_is}
 use Rattle.dec_core.proofs.StripLaws.{capped_product}
 use Rattle.dec_core.proofs.ValueLaws.{one_value, value_found, last_is_needed, value_of_stripped, value_of_zero}
 

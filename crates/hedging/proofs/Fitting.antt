@@ -8,7 +8,7 @@ use Rattle.std.proofs.Math.Nat.{mul-le-mul}
 use Rattle.std.specs.Int.{w128}
 use Rattle.std.specs.List.{sum_by}
 use Rattle.base_words.specs.ListSums.{sum_z}
-use Rattle.base_words.proofs.Magnitudes.{abs-add, fits_from_abs}
+use Rattle.base_words.proofs.Magnitudes.{abs-add, fits_from_abs, abs-less, abs_opposite}
 use Rattle.tree_core.specs.Nodes.{no_node, scenarios_at}
 use Rattle.run_calls.specs.MultiplierTests.{AreMembers, AreSized}
 use Rattle.sp_model.specs.Plans.{multiplier_of}
@@ -23,7 +23,6 @@ use Rattle.put_words.specs.NextMultipliers.{front_of, move_in, rise}
 use Rattle.put_words.specs.NodeSums.{AreInside, sum_of, value_at, weight_at, weight_of}
 use Rattle.put_words.proofs.Pulls.{pull_abs, pull_numerator_abs, raw_room, size_le, twice_abs}
 use Rattle.put_words.proofs.Rises.{move_abs, numerator_abs, rises_abs, weight_above, weight_most, regroup_step}
-use Rattle.put_words.proofs.Signed.{abs_less, abs_opposite}
 use Rattle.sp_model.proofs.LeastSums.{weight_size}
 use Rattle.put_words.proofs.Weights.{node_sum_abs, part_abs, value_abs, weight_sum}
 
@@ -96,7 +95,7 @@ pub apart_fits : (run : Run) (x : List ℤ) (n s j : ℕ) → AreInside run x �
 apart_fits run x n s j inside l below h =
     let ns = scenarios_at run.program.tree.nodes n in
     let whole = weight_of run ns *ℤ value_at run x s j in
-    fits_from_abs (whole -ℤ sum_of run x ns j) (omega (arith, abs_less whole (sum_of run x ns j), whole_abs run x n s j inside l below h, all_small run x n j inside l h))
+    fits_from_abs (whole -ℤ sum_of run x ns j) (omega (arith, abs-less whole (sum_of run x ns j), whole_abs run x n s j inside l below h, all_small run x n j inside l h))
 
 pub rate_small : (run : Run) (s : ℕ) → s < scenarios run → unsigned_abs (run.options.rho *ℤ weight_at run s) ≤ 2 ^ 90
 rate_small run s l =
@@ -163,4 +162,4 @@ pub early_fits : (run : Run) (multipliers : Multipliers) (x : List ℤ) (s j : �
     FitsSigned w128 ((pos 2 *ℤ (cost +ℤ multiplier_of run multipliers s j)) -ℤ pull run x s j)
 early_fits run multipliers x s j cost sized inside l h small =
     let priced = cost +ℤ multiplier_of run multipliers s j in
-    fits_from_abs ((pos 2 *ℤ priced) -ℤ pull run x s j) (omega (arith, abs_less (pos 2 *ℤ priced) (pull run x s j), twice_abs priced, priced_small run multipliers s j cost sized l h small, pull_small run x s j inside l h))
+    fits_from_abs ((pos 2 *ℤ priced) -ℤ pull run x s j) (omega (arith, abs-less (pos 2 *ℤ priced) (pull run x s j), twice_abs priced, priced_small run multipliers s j cost sized l h small, pull_small run x s j inside l h))

@@ -14,6 +14,7 @@ use Rattle.window_words.specs.declared.views.Reading.{Reading}
 use Rattle.window_words.proofs.Stamps.{whole_tells}
 use Rattle.window_words.proofs.Listed.{last_push, length_push}
 use Rattle.plain_board.specs.Plain.{IsFew}
+use Rattle.plain_board.proofs.Opening.{no_entry}
 
 abbrev IsShort : Owned → Type 0
 IsShort a = length a.closed ≤ last_of a.closed
@@ -33,9 +34,6 @@ entry_or d (Some p) = p.entry
 
 same_entry : (p : Pending) (k c : ℕ) → Some (pending k c) ≡ Some p → k ≡ p.entry
 same_entry p k c e = ap (entry_or 0) e
-
-not_none : {A : Type 0} (p : Pending) → None ≡ Some p → A
-not_none p e = absurd cc
 
 -- an entry is opened above all that were closed
 pub few_opened : (leaders k w : ℕ) (closed : List ℕ) (v : View) → IsFew leaders v → v.owned ≡ one w closed → last_of closed < k → IsFew leaders (with_owned v v.owned (Some (pending k 0)))
@@ -62,7 +60,7 @@ few_closed leaders k c w closed v f owned is =
     let long = length_push closed k in let last = last_push closed k in
     let done : All IsShort (one w (closed ++ k ∷ [])) = alone IsShort w (closed ++ k ∷ []) (omega arith) in record {
       closed = subst (λ (z : List Owned × Option Pending). All IsShort (close_first (entry_of z.1) z.0)) (λ i. (sym owned i, sym is i)) done;
-      above = λ p e. not_none p e;
+      above = λ p e. no_entry p e;
       accepted = f.accepted;
     }
 

@@ -18,8 +18,10 @@ use Rattle.window_words.specs.declared.views.Known.{Known}
 use Rattle.window_words.specs.declared.views.Owned.{Owned}
 use Rattle.window_words.specs.declared.views.Pending.{Pending}
 use Rattle.window_words.proofs.Listed.{length_push, push_at, push_before}
+use Rattle.window_words.proofs.Readers.{some_or}
+use Rattle.window_words.specs.Rooms.{with_room, room_of}
 use Rattle.plain_board.specs.declared.seat.PlainSeat.{PlainSeat}
-use Rattle.plain_board.specs.Tracks.{room_of, items_of, with_room}
+use Rattle.plain_board.specs.Tracks.{items_of}
 use Rattle.plain_board.specs.Seats.{shown, room_for, IsRoomy}
 use Rattle.plain_board.specs.Fresh.{ArePlaces, fresh_track}
 use Rattle.plain_board.specs.Plain.{state, hub_view, owner_view, fresh_views, fresh_board, IsFew, PlainRule}
@@ -27,22 +29,19 @@ use Rattle.plain_board.specs.Plain.{state, hub_view, owner_view, fresh_views, fr
 abbrev nought : ℕ
 nought = 0
 
-zeros : (n i : ℕ) → get_or (replicate n nought) i nought ≡ nought
-zeros zero i = refl
-zeros (suc n) zero = refl
-zeros (suc n) (suc i) = zeros n i
+-- a list of one value has it at each place, and past the end as well
+same_all : {A : Type 0} (d : A) (n i : ℕ) → get_or (replicate n d) i d ≡ d
+same_all d zero i = refl
+same_all d (suc n) zero = refl
+same_all d (suc n) (suc i) = same_all d n i
 
 empties : (P : ℕ → Type 0) (n i : ℕ) → All P (get_or (replicate n []) i [])
 empties P zero i = All-nil P
 empties P (suc n) zero = All-nil P
 empties P (suc n) (suc i) = empties P n i
 
-abbrev got : {A : Type 0} → A → Option A → A
-got d None = d
-got d (Some x) = x
-
 same_of : {A : Type 0} (x y : A) → Some x ≡ Some y → x ≡ y
-same_of x y e = ap (got x) e
+same_of x y e = ap (some_or x) e
 
 -- what stands in the list of known views
 known_at : {M : Type 0} (of : M) (f : ℕ → View) (a n j : ℕ) (v : Known M) → get_elem? (map (known of) (map f (range_with_len a n))) j ≡ some v → (j < n) × (known of (f (a + j)) ≡ v)
@@ -59,7 +58,7 @@ module _ {M : Type 0} (entry : ℕ → ℕ → List ℕ) (wide : ℕ → ℕ) (c
 
   hub_knows : K 0 (hub_view count)
   hub_knows = record {
-    hubs = λ _. (refl, refl, sym (zeros (start wide count) 0));
+    hubs = λ _. (refl, refl, sym (same_all nought (start wide count) 0));
     owns = All-nil (Account entry wide count ws (λ w. w + 1) 0 None);
     reads = tt;
     accepted = λ w. empties (λ k. 2 * k ≤ stamp wide ws w) count w;
@@ -68,7 +67,7 @@ module _ {M : Type 0} (entry : ℕ → ℕ → List ℕ) (wide : ℕ → ℕ) (c
   owner_knows : (w : ℕ) → w < count → K (w + 1) (owner_view count w)
   owner_knows w l = record {
     hubs = λ h. cc;
-    owns = All-cons (Account entry wide count ws (λ w. w + 1) (w + 1) None) record { window = w; closed = [] } [] record { below = l; owned = refl; stamped = zeros (start wide count) (start wide w); part = tt }
+    owns = All-cons (Account entry wide count ws (λ w. w + 1) (w + 1) None) record { window = w; closed = [] } [] record { below = l; owned = refl; stamped = same_all nought (start wide count) (start wide w); part = tt }
         (All-nil (Account entry wide count ws (λ w. w + 1) (w + 1) None));
     reads = tt;
     accepted = λ j. empties (λ k. 2 * k ≤ stamp wide ws j) count j;
@@ -88,11 +87,11 @@ module _ {M : Type 0} (entry : ℕ → ℕ → List ℕ) (wide : ℕ → ℕ) (c
     long = length-replicate (start wide count) 0;
     in_range = omega arith;
     new = λ w l b. absurd (omega arith);
-    top = λ w b. let z = zeros (start wide count) (start wide w) in omega arith;
-    whole = λ w k b pos e i l. let z = zeros (start wide count) (start wide w) in absurd (omega arith);
+    top = λ w b. let z = same_all nought (start wide count) (start wide w) in omega arith;
+    whole = λ w k b pos e i l. let z = same_all nought (start wide count) (start wide w) in absurd (omega arith);
     same = λ j v m at is. same_of m of (sym is ∙ sym (each_knows j v at).0);
     each = λ j v at. (each_knows j v at).1;
-    following = λ w u past b l. let at_w = zeros (start wide count) (start wide w) in let at_u = zeros (start wide count) (start wide u) in omega arith;
+    following = λ w u past b l. let at_w = same_all nought (start wide count) (start wide w) in let at_u = same_all nought (start wide count) (start wide u) in omega arith;
     listed = λ i j v u at_v at_u k d l. let a : Owned = get_or u.view.owned k d in
         subst (λ (z : List (List ℕ)). All (λ n. (1 ≤ n) × Contains a.closed n) (get_or z a.window [])) (sym (each_knows i v at_v).2) (empties (λ n. (1 ≤ n) × Contains a.closed n) count a.window);
   }
@@ -100,11 +99,6 @@ module _ {M : Type 0} (entry : ℕ → ℕ → List ℕ) (wide : ℕ → ℕ) (c
 -- a fresh board has room and no entries
 abbrev no_entries : List ℕ
 no_entries = []
-
-nil_at : (n i : ℕ) → get_or (replicate n no_entries) i no_entries ≡ no_entries
-nil_at zero i = refl
-nil_at (suc n) zero = refl
-nil_at (suc n) (suc i) = nil_at n i
 
 pub fresh_items : (leaders most a n : ℕ) → map items_of (map (fresh_track leaders most) (range_with_len a n)) ≡ replicate n []
 fresh_items leaders most a zero = refl
@@ -114,11 +108,11 @@ pub fresh_rooms : (leaders most a n : ℕ) → map room_of (map (fresh_track lea
 fresh_rooms leaders most a zero = refl
 fresh_rooms leaders most a (suc n) = let here : room_of (fresh_track leaders most a) ≡ room_for leaders most a = omega arith in let rest = fresh_rooms leaders most (a + 1) n in λ i. here i ∷ rest i
 
-no_entry : {A : Type 0} (p : Pending) → None ≡ Some p → A
+pub no_entry : {A : Type 0} (p : Pending) → None ≡ Some p → A
 no_entry p e = absurd cc
 
 few_accepted_yet : (count w : ℕ) → length (get_or (replicate count no_entries) w no_entries) ≤ last_of (get_or (replicate count no_entries) w no_entries)
-few_accepted_yet count w = subst (λ (z : List ℕ). length z ≤ last_of z) (sym (nil_at count w)) (omega arith)
+few_accepted_yet count w = subst (λ (z : List ℕ). length z ≤ last_of z) (sym (same_all no_entries count w)) (omega arith)
 
 few_hub : (leaders count : ℕ) → IsFew leaders (hub_view count)
 few_hub leaders count = record { closed = All-nil (λ a. length a.closed ≤ last_of a.closed); above = λ p e. no_entry p e; accepted = λ w _. few_accepted_yet count w }
@@ -149,7 +143,7 @@ pub fresh_rule : {M : Type 0} (E : M → ℕ → ℕ → List ℕ) (W : M → �
 fresh_rule {M} E W C Ld L of words starts n widest seats places zero_words views rooms = let many : length seats ≡ C of + 1 = sym (length-map seats shown) ∙ (ap length views ∙ fresh_length (C of)) in
     let all_zero : words ≡ replicate (start (W of) (C of)) 0 = zero_words ∙ ap (λ (z : ℕ). replicate z nought) places.2 in record {
       rule = subst (λ (z : List ℕ × List View). Windows (E of) (W of) (C of) (Ld of) (L of) of (state of z.0 z.1)) (λ i. (sym all_zero i, sym views i)) (opens_well (E of) (W of) (C of) (Ld of) (L of) of);
-      short = λ p. subst (λ (z : List ℕ). get_or z p 0 < 18446744073709551616) (sym zero_words) (let z = zeros n p in omega arith);
+      short = λ p. subst (λ (z : List ℕ). get_or z p 0 < 18446744073709551616) (sym zero_words) (let z = same_all nought n p in omega arith);
       many = places.0;
       begin = places.1;
       at_seat = omega arith;

@@ -12,10 +12,11 @@ use Rattle.window_words.specs.declared.views.Owned.{Owned}
 use Rattle.window_words.specs.declared.views.Reading.{Reading}
 use Rattle.plain_board.specs.declared.seat.Begun.{Begun}
 use Rattle.plain_board.specs.declared.seat.PlainSeat.{PlainSeat}
-use Rattle.plain_board.specs.Tracks.{room_of, items_of, empty}
+use Rattle.plain_board.specs.Tracks.{items_of, empty}
 use Rattle.plain_board.specs.Seats.{shown, owned_of, reading_of, read_count, IsRoomy, KeepsRoom, room_for, HasRoomToEnd}
 use Rattle.plain_board.specs.Plain.{IsFew}
 use Rattle.window_words.proofs.Stamps.{whole_tells}
+use Rattle.window_words.specs.Rooms.{room_of}
 use Rattle.plain_board.proofs.Fewness.{above_last}
 
 -- entries are never more than the number of the last, so one above it finds room

@@ -7,8 +7,9 @@ use Rattle.std.proofs.lemmas.Bool.{lt-ltb}
 use Rattle.std.proofs.Math.Seq.{map-set_same}
 use Rattle.wide_num.specs.RoomContents.{Contents}
 use Rattle.window_words.specs.Views.{accept, add_once, close_first, longer}
+use Rattle.window_words.specs.Rooms.{room_of}
 use Rattle.plain_board.specs.declared.seat.Begun.{Begun}
-use Rattle.plain_board.specs.Tracks.{room_of, items_of, empty}
+use Rattle.plain_board.specs.Tracks.{items_of, empty}
 use Rattle.plain_board.specs.Seats.{owned_of, reading_of, HasRoomFor}
 use Rattle.plain_board.proofs.Fewness.{past_leaders}
 

@@ -3,7 +3,7 @@ use Rattle.std.specs.Prelude.{◌≡◌, ◌<◌, ◌≤◌, ℕ, false, List, [
 use Rattle.wide_num.specs.RoomContents.{Contents}
 use Rattle.window_words.specs.Rule.{start}
 use Rattle.window_words.specs.declared.views.View.{View}
-use Rattle.plain_board.specs.Tracks.{with_room}
+use Rattle.window_words.specs.Rooms.{with_room}
 use Rattle.plain_board.specs.Seats.{room_for}
 
 -- where the windows begin, how many words there are, and a width that is the greatest

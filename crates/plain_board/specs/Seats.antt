@@ -7,9 +7,10 @@ use Rattle.window_words.specs.declared.views.View.{View}
 use Rattle.window_words.specs.declared.views.Owned.{Owned}
 use Rattle.window_words.specs.declared.views.Pending.{Pending}
 use Rattle.window_words.specs.declared.views.Reading.{Reading}
+use Rattle.window_words.specs.Rooms.{room_of}
 use Rattle.plain_board.specs.declared.seat.Begun.{Begun}
 use Rattle.plain_board.specs.declared.seat.PlainSeat.{PlainSeat}
-use Rattle.plain_board.specs.Tracks.{room_of, items_of, empty}
+use Rattle.plain_board.specs.Tracks.{items_of, empty}
 
 -- a seat's window with its closed entries, where it owns one
 abbrev pub owned_of : Option ℕ → List ℕ → List Owned

@@ -1,6 +1,6 @@
 -- No sum leaves 128 bits on the way from the core's activity of a row to that of a scenario.
 
-use Rattle.std.proofs.Common.{arith, refl, ap, ◌≡◌, ℕ, ◌+◌, ◌*◌, ◌^◌, ◌<◌, ◌≤◌, ◌==◌, ◌&&◌, nat_lt, Bool, true, false, List, [], ◌∷◌, length, get_or, take, ℤ, pos, negsuc, ◌+ℤ◌, ◌-ℤ◌, ◌*ℤ◌, unsigned_abs, FitsSigned, if◌then◌else◌}
+use Rattle.std.proofs.Common.{arith, refl, ap, ◌≡◌, ℕ, ◌+◌, ◌*◌, ◌^◌, ◌<◌, ◌≤◌, ◌==◌, ◌&&◌, nat_lt, Bool, true, false, List, [], ◌∷◌, length, get_or, take, ℤ, pos, ◌+ℤ◌, ◌-ℤ◌, ◌*ℤ◌, unsigned_abs, FitsSigned, if◌then◌else◌}
 use Rattle.std.specs.Int.{w128}
 use Rattle.std.specs.List.{sum_by}
 use Rattle.std.proofs.lemmas.Int.{ints, unsigned_abs-mul}
@@ -11,7 +11,7 @@ use Rattle.base_words.specs.ListSums.{sum_z}
 use Rattle.base_words.specs.Sums.{number_at}
 use Rattle.base_words.proofs.Comparisons.{both_right}
 use Rattle.base_words.proofs.ListSums.{sum_z-more}
-use Rattle.base_words.proofs.Magnitudes.{abs-add, fits_from_abs}
+use Rattle.base_words.proofs.Magnitudes.{abs-add, fits_from_abs, abs-less}
 use Rattle.base_words.proofs.SumBounds.{fold-abs_all}
 use Rattle.boxed_problem.specs.BoxedFacts.{entry_size, no_entry}
 use Rattle.boxed_problem.specs.Points.{InBox}
@@ -100,12 +100,6 @@ change_small run s i k x d there row inside l =
     (omega (arith, get_or-le-sum_by (given p i) cs k d l, high))
     (omega (arith, get_or-le-sum_by (taken p i p.entries) cs k d l, low))
 
-abs-minus : (a b : ℤ) → unsigned_abs (a -ℤ b) ≤ unsigned_abs a + unsigned_abs b
-abs-minus (pos a) (pos b) = omega (arith, ints)
-abs-minus (pos a) (negsuc b) = omega (arith, ints)
-abs-minus (negsuc a) (pos b) = omega (arith, ints)
-abs-minus (negsuc a) (negsuc b) = omega (arith, ints)
-
 -- the magnitude of a change's move
 move_abs : (p : Program) (x : List ℤ) (i : ℕ) (c : Change) → InBox (sides p) x → is_change (length p.rows) (length p.columns) c ≡ true → unsigned_abs (move_of (core_data p) x i c) ≤ given p i c + taken p i p.entries c
 move_abs p x i (Cost column value) inside there = omega (arith, ints)
@@ -114,7 +108,7 @@ move_abs p x i (Cell row column value) inside there =
     let old = entry_in (core_data p) row column in
     let columns = length-map p.columns side_of in
     let column_is = column_there (length p.rows) (length p.columns) row column there in
-    omega (arith, abs-minus (activity_part x i new) (activity_part x i old), activity_part-size (sides p) x i new inside (omega (arith, column_is, columns)), activity_part-size (sides p) x i old inside (omega (arith, column_is, columns)))
+    omega (arith, abs-less (activity_part x i new) (activity_part x i old), activity_part-size (sides p) x i new inside (omega (arith, column_is, columns)), activity_part-size (sides p) x i old inside (omega (arith, column_is, columns)))
 move_abs p x i (Limits row lower upper) inside there = omega (arith, ints)
 
 sizes_add : (f g : Change → ℕ) (cs : List Change) → sum_by (λ c. f c + g c) cs ≡ sum_by f cs + sum_by g cs
@@ -161,7 +155,7 @@ small_abs x i e small = by_test (e.row == i) refl
 
 -- two such parts one from another
 pub minus_fits : (x : List ℤ) (i : ℕ) (e f : Entry) → IsSmallPart x i e → IsSmallPart x i f → FitsSigned w128 (activity_part x i e -ℤ activity_part x i f)
-minus_fits x i e f h k = fits_from_abs (activity_part x i e -ℤ activity_part x i f) (omega (arith, abs-minus (activity_part x i e) (activity_part x i f), small_abs x i e h, small_abs x i f k))
+minus_fits x i e f h k = fits_from_abs (activity_part x i e -ℤ activity_part x i f) (omega (arith, abs-less (activity_part x i e) (activity_part x i f), small_abs x i e h, small_abs x i f k))
 
 -- an entry of another row has no part
 pub other_row : (x : List ℤ) (i row column : ℕ) (value : ℤ) (old : ℤ) → (row == i) ≡ false → pos 0 ≡ (activity_part x i (cell row column value) -ℤ activity_part x i (cell row column old))

@@ -1,6 +1,6 @@
 -- The activity of a row in a scenario is the core's, moved by each change.
 
-use Rattle.std.proofs.Common.{arith, refl, sym, ap, ◌∙◌, ◌≡◌, ℕ, ◌<◌, ◌==◌, Bool, true, false, ◌&&◌, List, [], ◌∷◌, ℤ, pos, ◌+ℤ◌, ◌-ℤ◌, ◌*ℤ◌, if◌then◌else◌}
+use Rattle.std.proofs.Common.{arith, refl, sym, ap, ◌∙◌, ◌≡◌, ℕ, ◌<◌, ◌==◌, Bool, true, false, List, [], ◌∷◌, ℤ, pos, ◌+ℤ◌, ◌-ℤ◌, ◌*ℤ◌, if◌then◌else◌}
 use Rattle.std.specs.Prelude.{find, unwrap_or, Option, Some, None}
 use Rattle.std.specs.List.{AllByRecursion, fold}
 use Rattle.std.proofs.lemmas.Int.{ints}
@@ -9,6 +9,7 @@ use Rattle.base_words.specs.Sums.{number_at}
 use Rattle.base_words.proofs.Comparisons.{both_left, both_right}
 use Rattle.base_words.proofs.ListSums.{sum_z-cons}
 use Rattle.base_words.proofs.Products.{zero_times}
+use Rattle.base_words.proofs.NumberTests.{same_from_test}
 use Rattle.boxed_problem.specs.Rows.{activity, activity_part}
 use Rattle.boxed_problem.specs.declared.parts.Entry.{Entry}
 use Rattle.sp_model.specs.Changes.{Data, core_data, data_of, is_at, is_before, put_entry, with_change}
@@ -18,7 +19,7 @@ use Rattle.sp_model.specs.Values.{is_cell}
 use Rattle.sp_model.specs.declared.program.Change.{Change}
 use Rattle.sp_model.specs.declared.program.Change.TheVariants.{Cost, Cell, Limits}
 use Rattle.sp_model.specs.declared.run.Run.{Run}
-use Rattle.sp_model.proofs.EntryOrder.{IsChain, after_is, chain_from, put_behind, put_chain, put_front, put_over}
+use Rattle.sp_model.proofs.EntryOrder.{IsChain, after_is, chain_from, change_chain, put_behind, put_front, put_over, swapped}
 use Rattle.sp_model.proofs.PlaceValues.{before_other, find_behind, find_head, put_other}
 use Rattle.sp_model.proofs.Putting.{chain_tail}
 use Rattle.reach_core.proofs.Balance.{AreApart, apart_from}
@@ -49,9 +50,6 @@ put_moves w e (f ∷ fs) c = by_before (is_before f e) refl (is_at f e) refl (pu
         let old : found w (find (is_cell e.row e.column) (f ∷ fs)) ≡ pos 0 = ap (found w) (none_behind e f fs c (after_is f e b a)) in
         omega (arith, ints, put, old)
 
-same_test : (a b : ℕ) → (a == b) ≡ true → a ≡ b
-same_test a b h = grind arith
-
 -- a part of the value 0
 idle_part : (t : Bool) (a : ℤ) → (if t then pos 0 *ℤ a else pos 0) ≡ pos 0
 idle_part true a = zero_times a
@@ -65,8 +63,8 @@ found_part x i row column es = by_found (find (is_cell row column) es) refl
     by_found None h = sym (idle_part (row == i) (number_at x column))
     by_found (Some f) h =
         let passes = found_passes (is_cell row column) es f h in
-        let at_column = same_test f.column column (both_left (f.column == column) (f.row == row) passes) in
-        let at_row = same_test f.row row (both_right (f.column == column) (f.row == row) passes) in
+        let at_column = same_from_test f.column column (both_left (f.column == column) (f.row == row) passes) in
+        let at_row = same_from_test f.row row (both_right (f.column == column) (f.row == row) passes) in
         ap (λ m. if m == i then f.value *ℤ number_at x f.column else pos 0) at_row ∙ ap (λ m. if row == i then f.value *ℤ number_at x m else pos 0) at_column
 
 moved : (a b c d : ℤ) → (a +ℤ b) ≡ (c +ℤ d) → a ≡ (c +ℤ (d -ℤ b))
@@ -82,17 +80,6 @@ change_moves d x i (Cell row column value) h =
     let same = found_part x i row column d.entries in
     moved (activity (put_entry e d.entries) x i) old (activity d.entries x i) (activity_part x i e) (ap (λ z. activity (put_entry e d.entries) x i +ℤ z) (sym same) ∙ put)
 change_moves d x i (Limits row lower upper) h = omega (arith, ints)
-
-change_chain : (d : Data) (c : Change) → IsChain d.entries → IsChain (with_change d c).entries
-change_chain d (Cost column value) h = h
-change_chain d (Cell row column value) h = put_chain (cell row column value) d.entries h
-change_chain d (Limits row lower upper) h = h
-
-swapped : (a b : Bool) → (a && b) ≡ false → (b && a) ≡ false
-swapped true true h = h
-swapped true false h = refl
-swapped false true h = refl
-swapped false false h = refl
 
 -- a change moves by the same after a change of another place
 move_kept : (x : List ℤ) (i : ℕ) (d : Data) (c e : Change) → is_same_place c e ≡ false → move_of (with_change d c) x i e ≡ move_of d x i e

@@ -10,7 +10,7 @@ use Rattle.std.proofs.lemmas.List.Folds.{find-append}
 use Rattle.std.proofs.lemmas.List.Sums.{fold_more}
 use Rattle.base_words.specs.Sums.{number_at}
 use Rattle.base_words.proofs.Comparisons.{both_left}
-use Rattle.base_words.proofs.NumberTests.{less_from_test}
+use Rattle.base_words.proofs.NumberTests.{less_from_test, same_from_test}
 use Rattle.boxed_problem.specs.BoxedFacts.{limits_at, no_limits}
 use Rattle.boxed_problem.specs.declared.parts.Entry.{Entry}
 use Rattle.boxed_problem.specs.declared.parts.Limits.{Limits as BothLimits}
@@ -25,9 +25,6 @@ use Rattle.sp_model.specs.declared.program.Column.{Column}
 use Rattle.sp_model.specs.declared.run.Run.{Run}
 use Rattle.plan_calls.specs.LookUps.{cost_with, limits_with}
 
-same_test : (a b : ℕ) → (a == b) ≡ true → a ≡ b
-same_test a b h = grind arith
-
 other_test : (a b : ℕ) → (a == b) ≡ false → b ≡ a → ⊥
 other_test a b h same = let other : (a == b) ≡ true = grind arith in absurd (let x = sym other ∙ h in cc)
 
@@ -36,7 +33,7 @@ read_at : {X : Type 0} (xs : List X) (i j : ℕ) (x d : X) → i < length xs →
 read_at xs i j x d l = by_place (i == j) refl
   where
     by_place : (t : Bool) → (i == j) ≡ t → get_or (set xs i x) j d ≡ (if t then x else get_or xs j d)
-    by_place true e = ap (λ k. get_or (set xs i x) k d) (sym (same_test i j e)) ∙ get_or-set_same xs i x d l
+    by_place true e = ap (λ k. get_or (set xs i x) k d) (sym (same_from_test i j e)) ∙ get_or-set_same xs i x d l
     by_place false e = get_or-set_other xs i j x d (other_test i j e)
 
 cost_folds : (d : Data) (rows columns j : ℕ) (cs : List Change) → length d.costs ≡ columns → AllByRecursion (λ c. is_change rows columns c ≡ true) cs → fold (cost_with j) (number_at d.costs j) cs ≡ number_at (fold with_change d cs).costs j

@@ -6,12 +6,13 @@ use Rattle.std.specs.Option.{option_or}
 use Rattle.std.specs.Ordering.{int_eq}
 use Rattle.std.specs.Result.{result_err}
 use Rattle.std.proofs.lemmas.Bool.Decides.{Decides-int_eq}
-use Rattle.std.proofs.lemmas.List.{get_or_default, length-map}
+use Rattle.std.proofs.lemmas.List.{get_or_default}
 use Rattle.std.proofs.lemmas.List.Elements.{All-contains, All-from_recursion, Contains-get_or, recursion_from_All}
 use Rattle.std.proofs.lemmas.List.FromFn.{get_or-range_with_len, length-range_with_len}
 use Rattle.base_words.specs.FirstAnswers.{first_some}
 use Rattle.base_words.proofs.Comparisons.{both, both_left, both_right, most_from_test, test_from_most}
 use Rattle.base_words.proofs.FirstAnswers.{first_some-all_none, first_some-none}
+use Rattle.base_words.proofs.NumberTests.{same_from_test}
 use Rattle.boxed_problem.specs.BoxedFacts.{limits_at}
 use Rattle.boxed_problem.specs.Optimum.{Feasible}
 use Rattle.boxed_problem.specs.Points.{InBox}
@@ -19,7 +20,7 @@ use Rattle.boxed_problem.specs.Rows.{meets}
 use Rattle.boxed_problem.specs.Sides.{side_at}
 use Rattle.run_calls.specs.MultiplierTests.{is_of_stage, node_at}
 use Rattle.run_calls.proofs.NumberedAnswers.{number_each}
-use Rattle.sp_model.specs.Changes.{side_of, sides}
+use Rattle.sp_model.specs.Changes.{sides}
 use Rattle.sp_model.specs.Plans.{AreNonanticipative, IsPlan, point_of, stage_of}
 use Rattle.sp_model.specs.Problems.{data_at, problem_in, scenarios}
 use Rattle.sp_model.specs.declared.plan.Plan.{Plan}
@@ -30,6 +31,7 @@ use Rattle.tree_core.specs.declared.tree.Node.{Node}
 use Rattle.plan_calls.specs.PlanTests.{ArePoints, activity_in, differs_at, first_value, infeasible, infeasible_in, lies_on, no_plan, outside_at, outside_in, split, split_at, split_in, unmet_at, unmet_in, value_in}
 use Rattle.plan_calls.specs.declared.failure.NoPlan.{NoPlan}
 use Rattle.plan_calls.specs.declared.failure.NoPlan.TheVariants.{Outside, Row, Split}
+use Rattle.plan_calls.proofs.PlanValues.{columns_long}
 
 left_none : {B : Type 0} (a b : Option B) → option_or a b ≡ None → a ≡ None
 left_none None b h = refl
@@ -56,9 +58,6 @@ none_below f n h =
     let xs = range_with_len 0 n in
     first_some-none f xs (recursion_from_All (λ k. f k ≡ None) xs (λ k d l. let at : get_or xs k d ≡ k = get_or-range_with_len 0 n k d (omega (arith, l, length-range_with_len 0 n)) ∙ omega arith in ap f at ∙ h k (omega (arith, l, length-range_with_len 0 n))))
 
-columns_long : (run : Run) → length (sides run.program) ≡ length run.program.columns
-columns_long run = length-map run.program.columns side_of
-
 -- where no column is outside, the point lies in the box
 pub box_inside : (run : Run) (plan : Plan) (s : ℕ) → ArePoints run plan → s < scenarios run → outside_in run plan s ≡ None → InBox (sides run.program) (point_of plan s)
 box_inside run plan s points there none = record {
@@ -82,9 +81,6 @@ point_feasible run plan s points there none =
 
 stage_test : (a b : ℕ) → a ≡ b → (a == b) ≡ true
 stage_test a b h = grind arith
-
-test_stage : (a b : ℕ) → (a == b) ≡ true → a ≡ b
-test_stage a b h = grind arith
 
 -- where no node is split, the scenarios of a node have the value of its first one
 node_same : (run : Run) (plan : Plan) (i j s : ℕ) → split run plan ≡ None → i < length run.program.tree.nodes → j < length run.program.columns → stage_of run j ≡ (node_at run i).stage → Contains (scenarios_at run.program.tree.nodes i) s → value_in plan s j ≡ first_value run plan i j
@@ -152,7 +148,7 @@ plan_same run plan i j same node l = by_stage (is_of_stage run i j) refl
     by_stage true e =
         let ns = scenarios_at run.program.tree.nodes i in
         let first = first_value run plan i j in
-        let stage = test_stage (stage_of run j) (node_at run i).stage e in
+        let stage = same_from_test (stage_of run j) (node_at run i).stage e in
         first_some-none (differs_at plan i j first) ns (recursion_from_All (λ u. differs_at plan i j first u ≡ None) ns (λ k d h. member_same run plan i j k d same node l stage h))
 
 plan_is_none : (run : Run) (plan : Plan) → IsPlan run plan → no_plan run plan ≡ None

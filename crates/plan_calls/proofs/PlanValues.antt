@@ -2,27 +2,27 @@
 
 use Rattle.std.proofs.Common.{arith, sym, ap, ◌∙◌, ◌≡◌, ℕ, ◌+◌, ◌*◌, ◌^◌, ◌<◌, ◌≤◌, List, length, ℤ, pos, ◌+ℤ◌, ◌*ℤ◌, unsigned_abs, FitsSigned}
 use Rattle.std.specs.Int.{w128}
-use Rattle.std.proofs.lemmas.Int.{ints, unsigned_abs-mul}
+use Rattle.std.proofs.lemmas.Int.{ints}
 use Rattle.std.proofs.lemmas.List.{length-map}
 use Rattle.std.proofs.Math.Nat.{mul-le-mul, mul_comm}
-use Rattle.base_words.specs.Sums.{number_at, size_below, sum_below}
+use Rattle.base_words.specs.Sums.{number_at, sum_below}
 use Rattle.base_words.proofs.Magnitudes.{abs-add, fits_from_abs}
-use Rattle.base_words.proofs.SumBounds.{size_below-le, sum_below-abs, sum_below-next}
+use Rattle.base_words.proofs.SumBounds.{sum_below-abs, sum_below-next}
 use Rattle.boxed_problem.specs.BoxedFacts.{column_size}
 use Rattle.boxed_problem.specs.Objective.{curve, value_of, value_part}
 use Rattle.boxed_problem.specs.Points.{InBox}
 use Rattle.boxed_problem.proofs.Magnitudes.{abs-curve, column_fits, column_within, value_fits_upto}
 use Rattle.sp_model.specs.Changes.{side_of, sides}
 use Rattle.sp_model.specs.Plans.{IsPlan, point_of}
-use Rattle.sp_model.specs.Problems.{data_at, factor_of, problem_in, scenario_at, scenarios}
+use Rattle.sp_model.specs.Problems.{data_at, factor_of, problem_in, scenarios}
 use Rattle.sp_model.specs.Reaching.{box_reach}
 use Rattle.sp_model.specs.declared.plan.Plan.{Plan}
 use Rattle.sp_model.specs.declared.run.Run.{Run}
 use Rattle.sp_model.proofs.Bounds.{reach_parts, value_fits}
 use Rattle.sp_model.proofs.DataFacts.{costs_fit, data_keeps}
-use Rattle.sp_model.proofs.Sizes.{size_below-mono, size_below-times, times_at, zeros_at}
+use Rattle.sp_model.proofs.Sizes.{size_below-times, times_at, zeros_at}
 use Rattle.sp_model.proofs.CostSpans.{cost_span, plain_span}
-use Rattle.sp_model.proofs.LeastSums.{total_abs_is, weight_size}
+use Rattle.sp_model.proofs.LeastSums.{factors_le}
 
 -- the cost of a column times the factor
 pub line_fits : (run : Run) (s j : ℕ) → s < scenarios run → j < length run.program.columns → FitsSigned w128 (factor_of run s *ℤ number_at (data_at run s).costs j)
@@ -34,12 +34,12 @@ line_is run s j = times_at (factor_of run s) (data_at run s).costs j
 pub flat : (run : Run) (s j : ℕ) → number_at (problem_in run s).square j ≡ pos 0
 flat run s j = zeros_at (data_at run s).costs j
 
-columns_long : (run : Run) → length (sides run.program) ≡ length run.program.columns
+pub columns_long : (run : Run) → length (sides run.program) ≡ length run.program.columns
 columns_long run = length-map run.program.columns side_of
 
 -- what a column adds
 pub part_fits : (run : Run) (s j : ℕ) (x : List ℤ) → s < scenarios run → j < length run.program.columns → InBox (sides run.program) x →
-    unsigned_abs (number_at (problem_in run s).line j) * unsigned_abs (number_at x j) + unsigned_abs (pos 0) * (unsigned_abs (number_at x j) * unsigned_abs (number_at x j)) ≤ 2 ^ 122
+    unsigned_abs (number_at (problem_in run s).line j) * unsigned_abs (number_at x j) + unsigned_abs (pos 0) * (unsigned_abs (number_at x j) * unsigned_abs (number_at x j)) ≤ 2 ^ 125
 part_fits run s j x there l inside =
     let p = problem_in run s in
     let v = unsigned_abs (number_at x j) in
@@ -69,15 +69,6 @@ value_abs run s x there inside =
     let size = column_size (sides run.program) p.line p.square in
     let parts = sum_below-abs n (value_part p.line p.square x) size (λ k l. omega (arith, abs-curve (number_at p.line k) (number_at p.square k) (number_at x k), column_within (sides run.program) p.line p.square x k inside l)) in
     omega (arith, abs-add p.constant (sum_below n (value_part p.line p.square x)), parts, plain_span run s there)
-
--- the factors of the first scenarios together
-factors_le : (run : Run) (k : ℕ) → k ≤ scenarios run → size_below k (λ s. unsigned_abs (factor_of run s)) ≤ unsigned_abs run.options.scale * unsigned_abs run.total
-factors_le run k h =
-    let scale = unsigned_abs run.options.scale in
-    let each = size_below-mono k (λ s. unsigned_abs (factor_of run s)) (λ s. scale * weight_size run s) (λ s l. omega (arith, unsigned_abs-mul run.options.scale (scenario_at run s).weight)) in
-    let weights : size_below k (weight_size run) ≤ unsigned_abs run.total = omega (arith, size_below-le k (scenarios run) (weight_size run) h, total_abs_is run) in
-    let same : scale ≤ scale = omega arith in
-    omega (arith, each, size_below-times k scale (weight_size run), mul-le-mul same weights)
 
 -- the value of scenario s's point
 abbrev pub point_value : Run → Plan → ℕ → ℤ

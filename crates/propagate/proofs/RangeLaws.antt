@@ -17,6 +17,7 @@ use Rattle.boxed_problem.proofs.Lying.{Single, single_at}
 use Rattle.boxed_problem.proofs.Lying.{Lies, within_reach}
 use Rattle.base_words.proofs.Products.{times_between}
 use Rattle.base_words.proofs.Comparisons.{both, both_left, both_right, most_from_test, not_not, test_from_most}
+use Rattle.base_words.proofs.Booleans.{either_false}
 
 -- sums of parts in order are in order
 pub fold_order : {E : Type 0} (f g : E → ℤ) → ((e : E) → f e ≤ℤ g e) → (a b : ℤ) (es : List E) → a ≤ℤ b → fold (λ s e. s +ℤ f e) a es ≤ℤ fold (λ s e. s +ℤ g e) b es
@@ -40,11 +41,11 @@ range_holds entries box x i h = (
   fold_order (activity_part x i) (high_part box i) (λ e. (parts_hold box x i e h).1) (pos 0) (pos 0) entries (omega (arith, ints)),
 )
 
-above_more : (o : Option ℤ) (a b : ℤ) → a ≤ℤ b → is_above o a ≡ true → is_above o b ≡ true
+pub above_more : (o : Option ℤ) (a b : ℤ) → a ≤ℤ b → is_above o a ≡ true → is_above o b ≡ true
 above_more None a b h e = refl
 above_more (Some l) a b h e = let k = most_from_test l a e in test_from_most l b (omega (arith, ints))
 
-below_less : (o : Option ℤ) (a b : ℤ) → a ≤ℤ b → is_below o b ≡ true → is_below o a ≡ true
+pub below_less : (o : Option ℤ) (a b : ℤ) → a ≤ℤ b → is_below o b ≡ true → is_below o a ≡ true
 below_less None a b h e = refl
 below_less (Some u) a b h e = let k = most_from_test b u e in test_from_most a u (omega (arith, ints))
 
@@ -62,10 +63,6 @@ not_missed_met limits low high a h k l e =
     both (is_above limits.lower a) (is_below limits.upper a)
     (above_more limits.lower high a (omega (arith, ints)) (both_left (is_above limits.lower high) (is_below limits.upper low) t))
     (below_less limits.upper a low (omega (arith, ints)) (both_right (is_above limits.lower high) (is_below limits.upper low) t))
-
-either_false : (p q : Bool) → p ≡ false → q ≡ false → (p || q) ≡ false
-either_false true q h k = absurd cc
-either_false false q h k = k
 
 pub either_left : (p q : Bool) → (p || q) ≡ false → p ≡ false
 either_left true q h = absurd cc

@@ -1,5 +1,5 @@
 -- The ranges of rows, while a column's side is changed.
-use Rattle.std.proofs.Common.{arith, refl, ap, sym, subst, inl, inr, ◌∙◌, ◌≡◌, ◌⊎◌, ℕ, ◌+◌, ◌*◌, ◌^◌, ◌==◌, ◌<◌, ◌≤◌, Bool, true, false, nat_le, nat_lt, List, [], ◌∷◌, ◌++◌, length, slice_set, get_or, ℤ, pos, negsuc, ◌+ℤ◌, ◌-ℤ◌, ◌*ℤ◌, unsigned_abs, FitsSigned, if◌then◌else◌}
+use Rattle.std.proofs.Common.{arith, refl, ap, sym, subst, inl, inr, ◌∙◌, ◌≡◌, ◌⊎◌, ℕ, ◌+◌, ◌*◌, ◌^◌, ◌==◌, ◌<◌, ◌≤◌, Bool, true, false, nat_le, nat_lt, List, [], ◌∷◌, ◌++◌, length, slice_set, get_or, ℤ, pos, ◌+ℤ◌, ◌-ℤ◌, ◌*ℤ◌, unsigned_abs, FitsSigned, if◌then◌else◌}
 use Rattle.std.proofs.lemmas.Int.{ints, unsigned_abs-mul}
 use Rattle.std.proofs.lemmas.List.Sums.{get_or-le-sum_by}
 use Rattle.std.proofs.Math.Nat.{mul-le-mul_left}
@@ -13,7 +13,8 @@ use Rattle.boxed_problem.specs.declared.parts.Limits.{Limits}
 use Rattle.propagate.specs.declared.range.Range.{Range}
 use Rattle.boxed_problem.specs.declared.parts.Side.{Side}
 use Rattle.boxed_problem.proofs.Lying.{side_reach}
-use Rattle.base_words.proofs.Magnitudes.{abs-add, fits_from_abs}
+use Rattle.base_words.proofs.Magnitudes.{abs-add, fits_from_abs, abs-less}
+use Rattle.base_words.proofs.NumberTests.{test_from_same}
 use Rattle.propagate.proofs.RangeLaws.{high_part-size, low_part-size}
 use Rattle.propagate.specs.Ranged.{AreRanges, IsInside, IsTrail, high_end, low_end, moved, no_range, range_at}
 use Rattle.propagate.specs.Spans.{IsBorder, IsSparse, place_at}
@@ -28,9 +29,6 @@ parts_stay sides j s i e n =
     let p = sym (set_not_at sides j e.column s n) in
     (ap (λ t. if e.row == i then int_min (e.value *ℤ t.lower) (e.value *ℤ t.upper) else pos 0) p, ap (λ t. if e.row == i then int_max (e.value *ℤ t.lower) (e.value *ℤ t.upper) else pos 0) p)
 
-same_test : (a b : ℕ) → a ≡ b → (a == b) ≡ true
-same_test a b e = grind arith
-
 other_test : (a b : ℕ) → (a ≡ b → ⊥) → (a == b) ≡ false
 other_test a b n = by_test (a == b) refl
   where
@@ -41,7 +39,7 @@ other_test a b n = by_test (a == b) refl
 -- the parts of an entry of the row are its ends
 pub parts_here : (sides : List Side) (i j : ℕ) (s : Side) (e : Entry) → e.row ≡ i → e.column ≡ j → side_at sides j ≡ s → (low_part sides i e ≡ low_end e.value s) × (high_part sides i e ≡ high_end e.value s)
 parts_here sides i j s e r h d =
-    let t = same_test e.row i r in
+    let t = test_from_same e.row i r in
     let p : side_at sides e.column ≡ s = ap (λ k. side_at sides k) h ∙ d in (
       ap (λ q. if q then int_min (e.value *ℤ (side_at sides e.column).lower) (e.value *ℤ (side_at sides e.column).upper) else pos 0) t ∙ ap (λ z. low_end e.value z) p,
       ap (λ q. if q then int_max (e.value *ℤ (side_at sides e.column).lower) (e.value *ℤ (side_at sides e.column).upper) else pos 0) t ∙ ap (λ z. high_end e.value z) p,
@@ -198,7 +196,7 @@ pub product_small : (columns : List Side) (entries : List Entry) (k : ℕ) (s : 
 product_small columns entries k s l h f =
     let e = entry_at entries k in
     let p = get_or-le-sum_by (entry_size columns e.row) entries k no_entry l in
-    let t = ap (λ q. if q then unsigned_abs e.value * reach (side_at columns e.column) else 0) (same_test e.row e.row refl) in
+    let t = ap (λ q. if q then unsigned_abs e.value * reach (side_at columns e.column) else 0) (test_from_same e.row e.row refl) in
     let q = mul-le-mul_left (unsigned_abs e.value) (inside_reach s (side_at columns e.column) h) in
     omega (arith, p, t, q, f)
 
@@ -229,17 +227,8 @@ ends_small v s m h =
     greater : (a b : ℤ) (m : ℕ) → unsigned_abs a ≤ m → unsigned_abs b ≤ m → unsigned_abs (int_max a b) ≤ m
     greater a b m h k = grind (arith, ints)
 
-less-abs : (a b : ℤ) → unsigned_abs (a -ℤ b) ≤ unsigned_abs a + unsigned_abs b
-less-abs (pos a) (pos b) = omega (arith, ints)
-less-abs (pos a) (negsuc b) = omega (arith, ints)
-less-abs (negsuc a) (pos b) = omega (arith, ints)
-less-abs (negsuc a) (negsuc b) = omega (arith, ints)
-
-pub less_fit : (a b : ℤ) → unsigned_abs a ≤ 2 ^ 122 → unsigned_abs b ≤ 2 ^ 122 → FitsSigned w128 (a -ℤ b)
-less_fit a b h k = fits_from_abs (a -ℤ b) (omega (arith, less-abs a b))
-
 pub less_more_fit : (a b d : ℤ) → unsigned_abs a ≤ 2 ^ 122 → unsigned_abs b ≤ 2 ^ 122 → unsigned_abs d ≤ 2 ^ 122 → FitsSigned w128 ((a -ℤ b) +ℤ d)
-less_more_fit a b d h k l = fits_from_abs ((a -ℤ b) +ℤ d) (omega (arith, less-abs a b, abs-add (a -ℤ b) d))
+less_more_fit a b d h k l = fits_from_abs ((a -ℤ b) +ℤ d) (omega (arith, abs-less a b, abs-add (a -ℤ b) d))
 
 -- ranges with the same ends
 abbrev range_of : ℤ → ℤ → Range

@@ -17,6 +17,7 @@ use Rattle.boxed_problem.specs.declared.parts.Limits.{Limits}
 use Rattle.propagate.specs.declared.range.Range.{Range}
 use Rattle.boxed_problem.specs.declared.parts.Side.{Side}
 use Rattle.base_words.proofs.Comparisons.{both_left, both_right, most_from_test, not_not}
+use Rattle.base_words.proofs.Magnitudes.{less_fits}
 use Rattle.boxed_problem.proofs.FixingLaws.{set_within}
 use Rattle.boxed_problem.proofs.Listing.{in_on}
 use Rattle.boxed_problem.proofs.Lying.{filled_at, on_lies, side_reach, within_at, within_self, within_trans}
@@ -37,7 +38,7 @@ use Rattle.boxed_problem.specs.declared.problem.Boxed.{Boxed}
 use Rattle.propagate.proofs.Setting.{in_set}
 use Rattle.propagate.proofs.Widening.{high_falls, low_rises}
 use Rattle.propagate.proofs.Mixed.{fold_summed, mixed_start, one_part}
-use Rattle.propagate.proofs.RangingLaws.{IsMoving, less_fit, moving_small, parts_here, product_small, row_small}
+use Rattle.propagate.proofs.RangingLaws.{IsMoving, moving_small, parts_here, product_small, row_small}
 
 filled_all : (box : List Side) → ((j : ℕ) → (side_at box j).lower ≤ℤ (side_at box j).upper) → Filled box
 filled_all [] h = tt
@@ -207,10 +208,10 @@ high_is m t s i l = let r = ((facts_of m t s).are.all i l).high in omega (arith,
 
 -- the slack fits, and isn't negative where the range doesn't miss the limits
 pub upper_slack_fits : (rows : List Limits) (i : ℕ) (low u : ℤ) → limits_size (limits_at rows i) ≤ 2 ^ 122 → unsigned_abs low ≤ 2 ^ 122 → (limits_at rows i).upper ≡ Some u → FitsSigned w128 (u -ℤ low)
-upper_slack_fits rows i low u l h e = less_fit u low (let d : limit_size (limits_at rows i).upper ≡ unsigned_abs u = ap limit_size e in omega (arith, l, d)) h
+upper_slack_fits rows i low u l h e = less_fits u low (let d : limit_size (limits_at rows i).upper ≡ unsigned_abs u = ap limit_size e in omega (arith, l, d)) (omega (arith, h))
 
 pub lower_slack_fits : (rows : List Limits) (i : ℕ) (high u : ℤ) → limits_size (limits_at rows i) ≤ 2 ^ 122 → unsigned_abs high ≤ 2 ^ 122 → (limits_at rows i).lower ≡ Some u → FitsSigned w128 (high -ℤ u)
-lower_slack_fits rows i high u l h e = less_fit high u h (let d : limit_size (limits_at rows i).lower ≡ unsigned_abs u = ap limit_size e in omega (arith, l, d))
+lower_slack_fits rows i high u l h e = less_fits high u (omega (arith, h)) (let d : limit_size (limits_at rows i).lower ≡ unsigned_abs u = ap limit_size e in omega (arith, l, d))
 
 pub upper_slack : (rows : List Limits) (i : ℕ) (low high u : ℤ) → (limits_at rows i).upper ≡ Some u → misses (limits_at rows i) low high ≡ false → pos 0 ≤ℤ (u -ℤ low)
 upper_slack rows i low high u e h = let k = below_upper (limits_at rows i) low high u h e in omega (arith, ints, k)
@@ -357,7 +358,7 @@ start_trail m sides ranges e f are =
     })
 
 -- a side that is no narrower is the same
-abbrev side_with : ℤ → ℤ → Side
+abbrev pub side_with : ℤ → ℤ → Side
 side_with l u = record { lower = l; upper = u }
 
 pub set_no_narrower : (sides : List Side) (j : ℕ) (s : Side) → s.lower ≤ℤ (side_at sides j).lower → (side_at sides j).upper ≤ℤ s.upper → IsInside s (side_at sides j) → sides ≡ slice_set sides j s

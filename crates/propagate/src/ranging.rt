@@ -4,16 +4,8 @@ ghost use Rattle.propagate.specs.Ranged.{AreRanges, IsInside, high_end, low_end,
 
 use crate::range::Range;
 use crate::sparse::Sparse;
-use boxed_problem::Side;
+use boxed_problem::{Side, product};
 use wide_num::List;
-
-/// A product that fits.
-fn product(value: i128, x: i64) -> i128
-    requires { unsigned_abs value * unsigned_abs x ≤ 2 ^ 122 }
-    ensures { result ≡ value *ℤ x }
-{
-    value * i128::from(x)
-}
 
 /// The least and the greatest of a number's products with a side's values.
 pub fn ends(value: i128, side: Side) -> Range

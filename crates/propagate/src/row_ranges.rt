@@ -4,7 +4,8 @@ ghost use Rattle.boxed_problem.specs.BoxedFacts.{entry_size};
 ghost use Rattle.propagate.specs.Ranges.{high_activity, high_part, low_activity, low_part, misses};
 
 use crate::range::Range;
-use boxed_problem::{Entry, Limits, Side, is_at_least, is_at_most, product};
+use crate::ranging::ends;
+use boxed_problem::{Entry, Limits, Side, is_at_least, is_at_most};
 
 /// What an entry adds to the activity of a row, from the least to the greatest.
 fn entry_range(sides: &[Side], entry: Entry, row: usize) -> Range
@@ -16,20 +17,7 @@ fn entry_range(sides: &[Side], entry: Entry, row: usize) -> Range
     if entry.row as usize != row {
         return Range { low: 0, high: 0 };
     }
-    let side = sides[entry.column as usize];
-    let first = product(entry.value, side.lower);
-    let last = product(entry.value, side.upper);
-    if last < first {
-        Range {
-            low: last,
-            high: first,
-        }
-    } else {
-        Range {
-            low: first,
-            high: last,
-        }
-    }
+    ends(entry.value, sides[entry.column as usize])
 }
 
 /// The range of a row's activity over the sides: no activity of a point on

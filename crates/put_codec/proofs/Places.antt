@@ -1,6 +1,7 @@
 -- Where the cells of each rank begin and end.
-use Rattle.std.proofs.Common.{arith, refl, sym, ap, ◌∙◌, ◌≡◌, ℕ, ◌+◌, ◌*◌, ◌-◌, ◌/◌, ◌<◌, ◌≤◌, ◌^◌, nat_lt, Bool, true, if◌then◌else◌}
+use Rattle.std.proofs.Common.{arith, refl, sym, ap, ◌∙◌, ◌≡◌, ℕ, ◌+◌, ◌*◌, ◌-◌, ◌/◌, ◌<◌, ◌≤◌, ◌^◌, Bool, if◌then◌else◌}
 use Rattle.std.proofs.Math.Nat.{div-le_of_le-mul, div-mul-le_self, le-div_iff_mul-le, mul-div_cancel_left, mul-le-mul}
+use Rattle.base_words.proofs.NumberTests.{test_from_less}
 use Rattle.put_codec.specs.declared.layout.Layout.{Layout}
 use Rattle.put_codec.specs.Layouts.{all_cells, cells_of, first_of, start_of, width_of}
 
@@ -25,16 +26,13 @@ start_rises layout i some = mul-le-mul (first_rises layout i some) (omega arith)
 pub start_last : (layout : Layout) → 0 < layout.ranks → start_of layout layout.ranks ≡ all_cells layout
 start_last layout some = ap (λ n. n * layout.nonleaf) (first_last layout some)
 
-pub lt_test : (a b : ℕ) → a < b → nat_lt a b ≡ true
-lt_test a b l = grind arith
-
 -- so many cells can be counted
 pub few_cells : (layout : Layout) → layout.scenarios < 2 ^ 32 → layout.nonleaf < 2 ^ 32 → all_cells layout < 2 ^ 64
 few_cells layout many wide = let most : all_cells layout ≤ 4294967295 * 4294967295 = mul-le-mul {n₂ = 4294967295} {m₂ = 4294967295} (omega arith) (omega arith) in omega arith
 
 -- how many words a rank's part has
 pub rank_width : (layout : Layout) (i : ℕ) → i < layout.ranks → width_of layout i ≡ 3 * cells_of layout i
-rank_width layout i l = ap (λ (b : Bool). if b then 3 * cells_of layout i else 3) (lt_test i layout.ranks l)
+rank_width layout i l = ap (λ (b : Bool). if b then 3 * cells_of layout i else 3) (test_from_less i layout.ranks l)
 
 -- the same for numbers that the code computes
 module _ (layout : Layout) (i : ℕ) where

@@ -8,6 +8,7 @@ use Rattle.std.proofs.Math.Nat.{div-lt_iff_lt-mul, eq-zero-or-pos, mod-lt}
 use Rattle.std.proofs.Math.ListN.{get_or-eq_default}
 use Rattle.base_words.specs.Sums.{number_at}
 use Rattle.base_words.proofs.Magnitudes.{fits_from_abs}
+use Rattle.base_words.proofs.NumberTests.{test_from_less}
 use Rattle.boxed_problem.specs.Sides.{side_at}
 use Rattle.boxed_problem.specs.declared.parts.Side.{Side}
 use Rattle.word_codec.specs.Spelling.{IsValue}
@@ -22,7 +23,6 @@ use Rattle.put_words.proofs.Inside.{put_inside, put_long}
 use Rattle.put_words.proofs.Rises.{put_sized}
 use Rattle.put_codec.specs.Entries.{FitsLayout, IsSpelled}
 use Rattle.put_codec.specs.Layouts.{layout_in}
-use Rattle.put_codec.proofs.Places.{lt_test}
 
 -- what holds of the cells of scenarios and columns, and of 0, holds at each place of a list
 by_cells : (xs : List ℤ) (n m : ℕ) (P : ℤ → Type 0) → length xs ≡ n * m → P (pos 0) → ((s j : ℕ) → s < n → j < m → P (number_at xs (s * m + j))) → (c : ℕ) → P (number_at xs c)
@@ -61,7 +61,7 @@ put_spelled run k made few e =
     let long = put_long run k made e in let inside = put_inside run k made e in let sized = put_sized run k made few e in record {
       multipliers = by_cells made.put.multipliers.values (scenarios run) run.nonleaf (λ v. FitsSigned w128 v) long zero_fits (λ s j l h.
           let small = sized s j l h in let most = most_small run j h in
-          early_multiplier (nat_lt j run.nonleaf) (number_at made.put.multipliers.values (s * run.nonleaf + j)) (pos 0) (lt_test j run.nonleaf h) (fits_from_abs (multiplier_of run made.put.multipliers s j) (omega arith)));
+          early_multiplier (nat_lt j run.nonleaf) (number_at made.put.multipliers.values (s * run.nonleaf + j)) (pos 0) (test_from_less j run.nonleaf h) (fits_from_abs (multiplier_of run made.put.multipliers s j) (omega arith)));
       x = by_cells made.put.x (scenarios run) run.nonleaf IsValue inside.long zero_is (λ s j l h.
           let box = box_small run j (early_column run j h) in
           inside_is (side_at (sides run.program) j) (value_at run made.put.x s j) (omega arith) (omega arith) (inside.lower s j l h) (inside.upper s j l h));

@@ -10,15 +10,16 @@ use Rattle.put_words.proofs.Inside.{put_number}
 use Rattle.log_words.specs.Replies.{reply_of}
 use Rattle.window_words.specs.declared.views.View.{View}
 use Rattle.stamped_read.specs.Promises.{ReadsFor, TellsWhole, IsSameGroup}
-use Rattle.stamped_read.specs.Readers.{Reader, fresh_part, part, room_of, words_of}
+use Rattle.stamped_read.specs.Readers.{Reader, fresh_part, part, words_of}
 use Rattle.stamped_read.specs.declared.read.Read.TheVariants as read
 use Rattle.std.proofs.lemmas.List.FromFn.{length-map-range_with_len}
+use Rattle.base_words.proofs.NumberTests.{test_from_less}
 use Rattle.put_read.specs.declared.reader.PutReader.{PutReader}
 use Rattle.put_codec.specs.declared.layout.Layout.{Layout}
 use Rattle.put_codec.specs.Entries.{AgreeBelow, FitsLayout, IsSpelled, entry_of, part_of, part_words}
 use Rattle.put_codec.specs.Layouts.{all_cells, cells_of, layout_in, start_of, width_of, windows_of}
 use Rattle.put_codec.proofs.Fitting.{part_length}
-use Rattle.put_codec.proofs.Places.{lt_test, rank_width, start_inside, start_last, start_rises}
+use Rattle.put_codec.proofs.Places.{rank_width, start_inside, start_last, start_rises}
 use Rattle.put_codec.proofs.Spellable.{put_fits, put_spelled}
 use Rattle.put_read.specs.Cells.{HasCells, HasPlaces, KeepsShape}
 use Rattle.put_read.specs.Reads.{AreShort, HasParts, ReadsPuts, TellsPut, fresh_in}
@@ -79,7 +80,7 @@ filling_ends layout s number put rank e some f given spelled fits n has =
 pub rank_entry : (run : Run) (w k : ℕ) (made : Made) → w < run.options.ranks → put_of run k ≡ Some made → entry_of run w k ≡ part_words (layout_in run) w made.put
 unfolding entry_of
 rank_entry run w k made l e =
-    ap (λ (b : Bool). if b then part_of run w k else reply_words (reply_of run (w - run.options.ranks) k)) (lt_test w run.options.ranks l)
+    ap (λ (b : Bool). if b then part_of run w k else reply_words (reply_of run (w - run.options.ranks) k)) (test_from_less w run.options.ranks l)
     ∙ ap (λ o. option_map_or (λ (m : Made). part_words (layout_in run) w m.put) o []) e
 
 -- parts are never longer than their windows

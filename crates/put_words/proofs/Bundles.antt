@@ -5,6 +5,7 @@ use Rattle.std.proofs.lemmas.List.Elements.{All-contains}
 use Rattle.std.proofs.lemmas.List.Sums.{position_or_len_is, sum_by-append}
 use Rattle.std.specs.List.{All, Contains, count_by, flat_map, list_any}
 use Rattle.base_words.proofs.Comparisons.{both, both_left, both_right}
+use Rattle.base_words.proofs.NumberTests.{test_from_same}
 use Rattle.tree_core.specs.Nodes.{holds, members, no_node, node_place, nodes_of, scenarios_at, StandsOnce}
 use Rattle.tree_core.specs.declared.tree.Node.{Node}
 use Rattle.tree_core.proofs.Listing.{any_counted}
@@ -22,12 +23,6 @@ counted xs s h = by_count (count_by (λ u. u == s) xs) refl
     by_count : (n : ℕ) → count_by (λ u. u == s) xs ≡ n → 1 ≤ count_by (λ u. u == s) xs
     by_count zero e = absurd (let f = any_counted (λ u. u == s) xs false e in cc)
     by_count (suc n) e = omega arith
-
-same_number : (a b : ℕ) → (a == b) ≡ true → a ≡ b
-same_number a b e = grind arith
-
-test_from_same : (a b : ℕ) → a ≡ b → (a == b) ≡ true
-test_from_same a b e = grind arith
 
 -- a node that has the scenario at the stage counts it among the members of the stage
 held_count : (nodes : List Node) (t s i : ℕ) (d : Node) → i < length nodes → holds s t (get_or nodes i d) ≡ true → 1 ≤ count_by (λ u. u == s) (members nodes t)

@@ -10,7 +10,7 @@ use Rattle.std.proofs.Math.Nat.{mul-le-mul}
 use Rattle.std.specs.Int.{int_div_euclid}
 use Rattle.std.specs.List.{All, range_with_len, sum_by}
 use Rattle.base_words.specs.Sums.{number_at, size_below}
-use Rattle.base_words.proofs.Magnitudes.{abs-add}
+use Rattle.base_words.proofs.Magnitudes.{abs-add, abs-less}
 use Rattle.base_words.proofs.Products.{times_order}
 use Rattle.base_words.proofs.SumBounds.{size_below-part}
 use Rattle.boxed_problem.specs.Data.{Problem, problem_of}
@@ -31,7 +31,6 @@ use Rattle.put_words.specs.Hedged.{hedged_in, hedged_line, hedged_square, pull}
 use Rattle.put_words.specs.Objectives.{with_objective}
 use Rattle.put_words.specs.NodeSums.{AreInside, bundle, node_for, sum_of, weight_at}
 use Rattle.put_words.proofs.Rises.{floor_abs, node_below, weight_above}
-use Rattle.put_words.proofs.Signed.{abs_less}
 use Rattle.sp_model.proofs.CostSpans.{cost_span, line_part, line_parts_le}
 use Rattle.put_words.proofs.Spans.{cut_le, sizes_add}
 use Rattle.sp_model.proofs.LeastSums.{total_abs_is, weight_size}
@@ -102,7 +101,7 @@ hedged_square_at run multipliers x s j h = get_or-map-range_with_len (hedged_squ
 
 line_abs : (c p q : ℤ) → unsigned_abs ((pos 2 *ℤ (c +ℤ p)) -ℤ q) ≤ 2 * (unsigned_abs c + unsigned_abs p) + unsigned_abs q
 line_abs c p q =
-    omega (arith, abs_less (pos 2 *ℤ (c +ℤ p)) q, twice_abs (c +ℤ p), abs-add c p)
+    omega (arith, abs-less (pos 2 *ℤ (c +ℤ p)) q, twice_abs (c +ℤ p), abs-add c p)
 
 part_is : (c p q m : ℕ) → (2 * (c + p) + q) * m ≡ 2 * (c * m) + 2 * p * m + q * m
 part_is c p q m = grind arith

@@ -9,7 +9,7 @@ use Rattle.std.proofs.Math.Nat.{mul-le-mul, mul_comm, suc-mul}
 use Rattle.std.specs.Int.{int_div_euclid}
 use Rattle.std.specs.List.{All, AllPairs, sum_by}
 use Rattle.base_words.specs.ListSums.{sum_z}
-use Rattle.base_words.proofs.Magnitudes.{abs-add}
+use Rattle.base_words.proofs.Magnitudes.{abs-add, abs-less, abs_opposite}
 use Rattle.base_words.proofs.SumBounds.{size_below-part}
 use Rattle.tree_core.specs.Nodes.{IsNode, no_node, scenarios_at}
 use Rattle.tree_core.proofs.Finding.{node_there}
@@ -26,7 +26,6 @@ use Rattle.put_words.specs.Puts.{Made, put_of}
 use Rattle.put_words.proofs.Bundles.{stands}
 use Rattle.put_words.proofs.Inside.{each_put}
 use Rattle.put_words.proofs.Moves.{next_at, nothing_at}
-use Rattle.put_words.proofs.Signed.{abs_less, abs_opposite}
 use Rattle.sp_model.proofs.LeastSums.{total_abs_is, weight_size}
 use Rattle.put_words.proofs.Weights.{node_sum_abs, value_abs, weight_some, weight_sum}
 
@@ -58,7 +57,7 @@ numerator_abs run x ns j s inside below l h =
     let weight = ap unsigned_abs (weight_sum run ns (recursion_from_All (λ k. k < scenarios run) ns below)) in
     let same : u ≤ u = omega arith in
     let product : unsigned_abs (weight_of run ns *ℤ value_at run x s j) ≤ u * m = omega (arith, unsigned_abs-mul (weight_of run ns) (value_at run x s j), ap (λ k. k * unsigned_abs (value_at run x s j)) weight, mul-le-mul same (value_abs run x s j inside l h)) in
-    let apart : unsigned_abs ((weight_of run ns *ℤ value_at run x s j) -ℤ sum_of run x ns j) ≤ u * m + u * m = omega (arith, abs_less (weight_of run ns *ℤ value_at run x s j) (sum_of run x ns j), product, node_sum_abs run x ns j inside below h) in
+    let apart : unsigned_abs ((weight_of run ns *ℤ value_at run x s j) -ℤ sum_of run x ns j) ≤ u * m + u * m = omega (arith, abs-less (weight_of run ns *ℤ value_at run x s j) (sum_of run x ns j), product, node_sum_abs run x ns j inside below h) in
     let rate = unsigned_abs-mul run.options.rho (weight_at run s) in
     let same_rate : r * w ≤ r * w = omega arith in
     let whole = unsigned_abs-mul (run.options.rho *ℤ weight_at run s) ((weight_of run ns *ℤ value_at run x s j) -ℤ sum_of run x ns j) in

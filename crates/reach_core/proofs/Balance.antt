@@ -1,5 +1,5 @@
 -- What changes take from the sum of a row and what they give to it.
-use Rattle.std.proofs.Common.{arith, refl, sym, ap, subst, ◌∙◌, ◌≡◌, ℕ, suc, ◌+◌, ◌*◌, ◌≤◌, ◌==◌, Bool, true, false, ◌&&◌, List, [], ◌∷◌, map, if◌then◌else◌, pos, unsigned_abs}
+use Rattle.std.proofs.Common.{arith, refl, sym, ap, subst, ◌∙◌, ◌≡◌, ℕ, suc, ◌+◌, ◌*◌, ◌≤◌, ◌==◌, Bool, true, false, List, [], ◌∷◌, map, if◌then◌else◌, pos, unsigned_abs}
 use Rattle.std.specs.Prelude.{find, unwrap_or, Option, Some, None}
 use Rattle.std.specs.List.{AllByRecursion, AllPairs, fold, sum_by}
 use Rattle.std.proofs.lemmas.List.Elements.{recursion_from_All}
@@ -14,7 +14,7 @@ use Rattle.sp_model.specs.Values.{is_cell}
 use Rattle.sp_model.specs.declared.program.Change.{Change}
 use Rattle.sp_model.specs.declared.program.Change.TheVariants.{Cost, Cell, Limits}
 use Rattle.sp_model.specs.declared.program.Program.{Program}
-use Rattle.sp_model.proofs.EntryOrder.{IsChain, after_is, put_behind, put_chain, put_front, put_over}
+use Rattle.sp_model.proofs.EntryOrder.{IsChain, after_is, change_chain, put_behind, put_front, put_over, swapped}
 use Rattle.sp_model.proofs.PlaceValues.{before_other, find_behind, find_head, put_other}
 use Rattle.sp_model.proofs.Putting.{chain_tail}
 use Rattle.reach_core.proofs.Finding.{found_passes, none_behind, value_of}
@@ -77,17 +77,6 @@ change_balance p i d (Cell row column value) h =
     let e : Entry = record { row = row; column = column; value = value } in
     omega (arith, put_balance (entry_size (sides p) i) e d.entries h, found_size p i row column d.entries)
 change_balance p i d (Limits row lower upper) h = refl
-
-change_chain : (d : Data) (c : Change) → IsChain d.entries → IsChain (with_change d c).entries
-change_chain d (Cost column value) h = h
-change_chain d (Cell row column value) h = put_chain (record { row = row; column = column; value = value }) d.entries h
-change_chain d (Limits row lower upper) h = h
-
-swapped : (a b : Bool) → (a && b) ≡ false → (b && a) ≡ false
-swapped true true h = h
-swapped true false h = refl
-swapped false true h = refl
-swapped false false h = refl
 
 -- what stands at another place stays
 taken_kept : (p : Program) (i : ℕ) (d : Data) (c e : Change) → is_same_place c e ≡ false → taken p i (with_change d c).entries e ≡ taken p i d.entries e

@@ -25,12 +25,12 @@ use Rattle.sp_model.specs.declared.program.Program.{Program}
 use Rattle.sp_model.specs.declared.program.Row.{Row}
 use Rattle.sp_model.specs.declared.program.Scenario.{Scenario}
 use Rattle.sp_model.proofs.Bounds.{abs_some}
-use Rattle.sp_model.proofs.Lengths.{limits_kept}
 use Rattle.sp_model.proofs.PlaceValues.{given}
 use Rattle.sp_model.proofs.ProgramReach.{core_cost_le, core_rows_le, parts_within, row_le, scenario_cost_le, scenario_rows_le}
 use Rattle.base_words.proofs.Comparisons.{both_left, both_right}
 use Rattle.reach_core.proofs.Finding.{found_passes}
 use Rattle.reach_core.specs.Within.{HasReach, NumbersWithin, change_size}
+use Rattle.reach_core.proofs.Data.{data_limits}
 
 -- a number times factors of at least 1
 times_some : (n a : ℕ) → 1 ≤ a → n ≤ a * n
@@ -60,10 +60,6 @@ cost_within p o total nonleaf j z facts lt le idle =
     let same : box_reach p j ≤ box_reach p j = omega arith in
     let product = mul-le-mul le same in
     omega (arith, with_factor z (box_reach p j) idle, product, size_below-part (length p.columns) (λ k. cost_reach p k * box_reach p k) j lt, in_line p o total nonleaf facts)
-
-data_long : (p : Program) (s : Scenario) → length (data_of p s).limits ≡ length p.rows
-unfolding data_of
-data_long p s = limits_kept (core_data p) s.changes ∙ length-map p.rows limits_of
 
 -- a row of some data
 limits_le : (p : Program) (d : Data) (i : ℕ) → i < length d.limits → limits_size (limits_at d.limits i) ≤ data_reach p d
@@ -130,11 +126,11 @@ change_within p o total nonleaf s (Cost j z) facts lt there idle has =
 change_within p o total nonleaf s (Cell i j z) facts lt there idle has =
     let d = data_of p (get_or p.scenarios s no_scenario) in
     let row : i < length p.rows = let t = both_left (nat_lt i (length p.rows)) (nat_lt j (length p.columns)) there in grind arith in
-    omega (arith, cell_le p d i j z (omega (arith, data_long p (get_or p.scenarios s no_scenario), row)) has idle, scenario_rows_le p s lt, rows_within p o total nonleaf)
+    omega (arith, cell_le p d i j z (omega (arith, data_limits p (get_or p.scenarios s no_scenario), row)) has idle, scenario_rows_le p s lt, rows_within p o total nonleaf)
 change_within p o total nonleaf s (Limits i lower upper) facts lt there idle has =
     let d = data_of p (get_or p.scenarios s no_scenario) in
     let row : i < length p.rows = let t = both_left (nat_lt i (length p.rows)) (are_limits lower upper) there in grind arith in
-    omega (arith, ap limits_size has, limits_le p d i (omega (arith, data_long p (get_or p.scenarios s no_scenario), row)), scenario_rows_le p s lt, rows_within p o total nonleaf)
+    omega (arith, ap limits_size has, limits_le p d i (omega (arith, data_limits p (get_or p.scenarios s no_scenario), row)), scenario_rows_le p s lt, rows_within p o total nonleaf)
 
 changes_fit : (p : Program) (o : Options) (total : ℤ) (nonleaf : ℕ) → HasReach p o total → All (λ (s : Scenario). All (λ c. change_size c ≤ run_reach p o total nonleaf) s.changes) p.scenarios
 changes_fit p o total nonleaf facts k s lt i c i_lt =

@@ -2,7 +2,7 @@
 use Rattle.std.specs.Prelude.{◌<◌, length}
 use Rattle.std.specs.List.{All}
 use Rattle.boxed_problem.specs.declared.parts.Entry.{Entry}
-use Rattle.sp_model.specs.Changes.{AreAscending}
+use Rattle.boxed_problem.specs.BoxedFacts.{AreAscending}
 use Rattle.sp_model.specs.declared.program.Program.{Program}
 
 -- each entry names a row and a column that are there

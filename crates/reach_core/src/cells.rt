@@ -7,18 +7,7 @@ ghost use Rattle.sp_model.proofs.EntryOrder.{IsChain};
 ghost use Rattle.reach_core.specs.Places.{AreOrdered};
 
 use boxed_problem::Entry;
-use sp_model::Program;
-
-// Whether an entry stands before the place of another, by column and then by row.
-fn is_before(entry: &Entry, other: &Entry) -> bool
-    ensures { result ≡ is_before entry.now other.now }
-{
-    if entry.column == other.column {
-        entry.row < other.row
-    } else {
-        entry.column < other.column
-    }
-}
+use sp_model::{Program, is_before};
 
 // The value of an entry at the place of another, 0 at another place.
 fn value_at(entry: &Entry, other: &Entry) -> i128

@@ -1,18 +1,13 @@
 -- The first answer that the numbers below n give, number by number.
 
-use Rattle.std.proofs.Common.{arith, refl, sym, ap, ◌∙◌, ◌≡◌, ℕ, zero, suc, ◌+◌, ◌<◌, ◌≤◌, add-one, [], ◌∷◌, take, get_or, Option, Some, None}
+use Rattle.std.proofs.Common.{arith, refl, sym, ap, ◌∙◌, ◌≡◌, ℕ, ◌+◌, ◌<◌, add-one, [], ◌∷◌, get_or, Option, Some, None}
 use Rattle.std.specs.List.{range_with_len}
 use Rattle.std.specs.Option.{option_or}
 use Rattle.std.proofs.lemmas.List.Elements.{All-from_recursion}
 use Rattle.std.proofs.lemmas.List.FromFn.{get_or-range_with_len, length-range_with_len}
 use Rattle.base_words.specs.FirstAnswers.{first_some}
 use Rattle.base_words.proofs.FirstAnswers.{first_some-all_none, first_some-append, first_some-found}
-use Rattle.base_words.proofs.ListSumsByNumber.{range_more}
-
-take_range : (a n k : ℕ) → k ≤ n → take k (range_with_len a n) ≡ range_with_len a k
-take_range a n zero h = refl
-take_range a zero (suc k) h = absurd (omega arith)
-take_range a (suc n) (suc k) h = ap (λ xs. a ∷ xs) (take_range (a + 1) n k (omega arith))
+use Rattle.base_words.proofs.ListSumsByNumber.{range_more, take_range}
 
 -- one number more
 first_next : {B : Type 0} (f : ℕ → Option B) (k : ℕ) → first_some f (range_with_len 0 k) ≡ None → first_some f (range_with_len 0 (k + 1)) ≡ f k

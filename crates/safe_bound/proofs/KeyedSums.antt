@@ -6,14 +6,11 @@ use Rattle.std.proofs.lemmas.List.Sums.{sum_by-cons}
 use Rattle.std.specs.List.{AllByRecursion, fold, sum_by}
 use Rattle.base_words.proofs.Products.{sum_times, times_sum, zero_times}
 use Rattle.base_words.specs.Sums.{size_below, sum_below}
+use Rattle.base_words.proofs.ListSumsByNumber.{sum_below-same}
 
 -- the sum over a list, the parts added to 0 from the left
 abbrev pub list_sum : {E : Type 0} → (E → ℤ) → List E → ℤ
 list_sum f es = fold (λ s e. s +ℤ f e) (pos 0) es
-
-pub sum_below-same : (n : ℕ) (f g : ℕ → ℤ) → ((k : ℕ) → k < n → f k ≡ g k) → sum_below n f ≡ sum_below n g
-sum_below-same zero f g h = refl
-sum_below-same (suc n) f g h = omega (arith, ints, h n (omega arith), sum_below-same n f g (λ k l. h k (omega arith)))
 
 pub sum_below-add : (n : ℕ) (f g : ℕ → ℤ) → sum_below n (λ k. f k +ℤ g k) ≡ (sum_below n f +ℤ sum_below n g)
 sum_below-add zero f g = refl

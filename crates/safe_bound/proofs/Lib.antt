@@ -1,4 +1,3 @@
-mod WideFits
 pub mod Vertex
 pub mod LeastLaws
 mod KeyedSums

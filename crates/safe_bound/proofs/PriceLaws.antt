@@ -21,8 +21,9 @@ use Rattle.boxed_problem.specs.declared.parts.Prices.{Prices}
 use Rattle.boxed_problem.specs.declared.parts.Side.{Side}
 use Rattle.base_words.proofs.Comparisons.{both_left, both_right, most_from_test}
 use Rattle.base_words.proofs.Products.{sum_times, times_one, times_order, times_sum, times_turn, zero_times}
+use Rattle.base_words.proofs.ListSumsByNumber.{sum_below-same}
 use Rattle.safe_bound.specs.PriceBound.{IsPriceBound, entry_price, limit_number, limit_price, limit_sum, paid_limit, price_total, priced_activity, reduced_cost, reduced_least, scaled_square, unit_price}
-use Rattle.safe_bound.proofs.KeyedSums.{by_key, list_sum, list_sum-by, list_sum-same, list_sum-times, sum_below-add, sum_below-same, sum_below-times}
+use Rattle.safe_bound.proofs.KeyedSums.{by_key, list_sum, list_sum-by, list_sum-same, list_sum-times, sum_below-add, sum_below-times}
 use Rattle.safe_bound.proofs.LeastLaws.{least_on-le}
 
 -- a product with the opposite of a number

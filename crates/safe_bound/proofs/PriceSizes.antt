@@ -18,7 +18,7 @@ use Rattle.boxed_problem.specs.declared.parts.Prices.{Prices}
 use Rattle.boxed_problem.specs.declared.parts.Side.{Side}
 use Rattle.base_words.proofs.Products.{times_order}
 use Rattle.boxed_problem.proofs.Lying.{filled_at, within_reach}
-use Rattle.base_words.proofs.Magnitudes.{abs-add, fits_from_abs}
+use Rattle.base_words.proofs.Magnitudes.{abs-add, fits_from_abs, abs-less}
 use Rattle.base_words.proofs.SumBounds.{fold-abs, size_below-le, size_below-part, sum_below-abs}
 use Rattle.safe_bound.specs.Leasts.{least_on}
 use Rattle.safe_bound.specs.PriceBound.{entry_price, limit_number, limit_price, limit_sum, paid_limit, reduced_cost, reduced_least, scaled_square, unit_price}
@@ -26,7 +26,6 @@ use Rattle.safe_bound.specs.Reducing.{kept_cost, kept_square, reduced_constant}
 use Rattle.safe_bound.proofs.KeyedSums.{by_key_size, list_sum, size_below-add, size_below-same, size_below-times, sum_by-same, sum_by-times}
 use Rattle.safe_bound.proofs.LeastLaws.{least_on-size}
 use Rattle.safe_bound.specs.PriceWeights.{limit_weight, weight}
-use Rattle.safe_bound.proofs.WideFits.{abs-less}
 
 abbrev pub Placed : Problem → Type 0
 Placed b = All (λ e. (e.row < length b.rows) × (e.column < length b.columns)) b.entries

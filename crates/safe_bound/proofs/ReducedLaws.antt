@@ -11,6 +11,7 @@ use Rattle.boxed_problem.specs.BoxedFacts.{value_size}
 use Rattle.boxed_problem.specs.PriceFit.{FitsPrices}
 use Rattle.boxed_problem.specs.Sides.{Within, side_at}
 use Rattle.base_words.specs.Sums.{number_at, sum_below}
+use Rattle.base_words.proofs.ListSumsByNumber.{sum_below-same}
 use Rattle.boxed_problem.specs.declared.parts.Prices.{Prices}
 use Rattle.boxed_problem.specs.declared.parts.Side.{Side}
 use Rattle.safe_bound.specs.Leasts.{least_on, least_part}
@@ -18,7 +19,6 @@ use Rattle.safe_bound.specs.PriceBound.{price_total, reduced_least}
 use Rattle.safe_bound.specs.ReducedOf.{IsReduced, reduced_total}
 use Rattle.safe_bound.specs.Reducing.{IsReducedData, kept_cost, kept_square, reduced_constant}
 use Rattle.safe_bound.specs.declared.reduced.Reduced.{Reduced}
-use Rattle.safe_bound.proofs.KeyedSums.{sum_below-same}
 use Rattle.safe_bound.proofs.PriceSizes.{Placed, kept_least, kept_square-positive, kept_value}
 
 -- the total of a reduced problem is that of the prices

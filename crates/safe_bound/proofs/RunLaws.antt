@@ -5,7 +5,7 @@ use Rattle.std.proofs.lemmas.Int.{ints}
 use Rattle.std.proofs.lemmas.List.{take_all}
 use Rattle.std.proofs.lemmas.List.Sums.{fold_more}
 use Rattle.boxed_problem.specs.Data.{Problem}
-use Rattle.boxed_problem.specs.BoxedFacts.{ComesBefore, entry_at, no_entry}
+use Rattle.boxed_problem.specs.BoxedFacts.{entry_at, no_entry, AreAscending}
 use Rattle.base_words.specs.Sums.{number_at}
 use Rattle.boxed_problem.specs.declared.parts.Entry.{Entry}
 use Rattle.boxed_problem.specs.declared.parts.Prices.{Prices}
@@ -13,11 +13,8 @@ use Rattle.safe_bound.specs.PriceBound.{entry_price, unit_price}
 use Rattle.safe_bound.specs.Runs.{IsColumnRun, IsRunEnd, StartsAt}
 use Rattle.safe_bound.proofs.KeyedSums.{list_sum}
 
-abbrev pub Ascends : List Entry → Type 0
-Ascends es = (k : ℕ) → k + 1 < length es → ComesBefore (entry_at es k) (entry_at es (k + 1))
-
 -- the columns never fall
-ascending : (es : List Entry) → Ascends es → (i n : ℕ) → i + n < length es → (entry_at es i).column ≤ (entry_at es (i + n)).column
+ascending : (es : List Entry) → AreAscending es → (i n : ℕ) → i + n < length es → (entry_at es i).column ≤ (entry_at es (i + n)).column
 ascending es a i zero h = let e : i + zero ≡ i = omega arith in omega (arith, ap (λ k. (entry_at es k).column) e)
 ascending es a i (suc n) h =
     let r = ascending es a i n (omega arith) in
@@ -26,7 +23,7 @@ ascending es a i (suc n) h =
     omega (arith, r, s, ap (λ k. (entry_at es k).column) e)
 
 -- from the first entry of a column to the first one of another, the entries are those of the column
-pub run_is : (es : List Entry) (column first end : ℕ) → Ascends es → StartsAt es column first → IsRunEnd es column first end → IsColumnRun es column first end
+pub run_is : (es : List Entry) (column first end : ℕ) → AreAscending es → StartsAt es column first → IsRunEnd es column first end → IsColumnRun es column first end
 run_is es column first end a s r = record { starts = s; order = r.order; within = r.within; inside = r.inside; behind = later }
   where
     later : (k : ℕ) → end ≤ k → k < length es → column < (entry_at es k).column

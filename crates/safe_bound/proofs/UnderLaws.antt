@@ -16,11 +16,11 @@ use Rattle.boxed_problem.specs.declared.parts.Side.{Side}
 use Rattle.boxed_problem.proofs.RowTests.{feasible_from}
 use Rattle.base_words.proofs.Magnitudes.{abs_between}
 use Rattle.base_words.proofs.Products.{zero_times}
+use Rattle.base_words.proofs.ListSumsByNumber.{sum_below-same}
 use Rattle.safe_bound.specs.PriceBound.{priced_activity, reduced_cost, scaled_square}
 use Rattle.safe_bound.specs.ReducedOf.{IsReduced, IsUnder, reduced_value}
 use Rattle.safe_bound.specs.Reducing.{kept_cost, kept_square}
 use Rattle.safe_bound.specs.declared.reduced.Reduced.{Reduced}
-use Rattle.safe_bound.proofs.KeyedSums.{sum_below-same}
 use Rattle.safe_bound.proofs.PriceLaws.{by_columns, limits_below}
 
 -- at 0 nothing is added

@@ -1,10 +1,9 @@
 ghost use Rattle.std.specs.Prelude.{◌≡◌, ◌+◌, ◌*◌, ◌^◌, ◌≤◌, ◌≤ℤ◌, ◌<ℤ◌, pos, unsigned_abs};
 ghost use Rattle.boxed_problem.specs.Data.{problem_of};
-ghost use Rattle.boxed_problem.specs.Objective.{curve};
 ghost use Rattle.boxed_problem.specs.Sides.{Within, reach};
 ghost use Rattle.safe_bound.specs.Leasts.{IsLeastAt, IsNearest, IsVertex, least_on, least_value};
 
-use boxed_problem::{Boxed, Side};
+use boxed_problem::{Boxed, Side, column_value};
 use wide_num::List;
 
 /// The last place to which a column with a square falls.
@@ -50,16 +49,6 @@ fn least_place(line: i128, square: i128, side: Side) -> i64
     }
 }
 
-/// What a column with a linear and a square cost adds at the value `x`.
-fn curve_at(line: i128, square: i128, x: i64) -> i128
-    requires { unsigned_abs line * unsigned_abs x + unsigned_abs square *
-        (unsigned_abs x * unsigned_abs x) ≤ 2 ^ 125 }
-    ensures { result ≡ curve line square x }
-{
-    let x = i128::from(x);
-    line * x + square * (x * x)
-}
-
 /// The least that a column with a linear and a square cost adds over the whole
 /// numbers of a side.
 pub fn column_least(line: i128, square: i128, side: Side) -> i128
@@ -69,7 +58,7 @@ pub fn column_least(line: i128, square: i128, side: Side) -> i128
         ≤ 2 ^ 125 }
     ensures { result ≡ least_on line square side }
 {
-    curve_at(line, square, least_place(line, square, side))
+    column_value(line, square, least_place(line, square, side))
 }
 
 /// The least of the objective over the sides, column by column: at most its

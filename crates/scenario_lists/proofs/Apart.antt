@@ -2,16 +2,13 @@
 use Rattle.std.proofs.Common.{arith, ◌≡◌, ◌<◌, ◌||◌, ℕ, zero, suc, Bool, true, false, if◌then◌else◌, List, [], ◌∷◌, ◌++◌, length, get_or, refl}
 use Rattle.std.specs.List.{AllPairs, fold, list_any}
 use Rattle.std.proofs.lemmas.List.Quantifiers.{all_pairs_push}
+use Rattle.base_words.proofs.Booleans.{or_left}
 use Rattle.stoch_lines.specs.Places.{same_place}
 use Rattle.stoch_lines.specs.declared.places.StochEntry.{StochEntry}
 use Rattle.scenario_lists.specs.Distinct.{first_of_each, has_place, is_of, with_entry}
 
 abbrev Apart : StochEntry → StochEntry → Type 0
 Apart e f = same_place e.place f.place ≡ false
-
-or_left : (a b : Bool) → (a || b) ≡ false → a ≡ false
-or_left true b h = h
-or_left false b h = refl
 
 or_right : (a b : Bool) → (a || b) ≡ false → b ≡ false
 or_right true b h = cc

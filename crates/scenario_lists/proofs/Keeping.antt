@@ -3,19 +3,12 @@ use Rattle.std.proofs.Common.{refl, sym, ap, ◌∙◌, ◌≡◌, Bool, true, f
 use Rattle.std.specs.List.{list_any}
 use Rattle.std.specs.Option.{is_some}
 use Rattle.indexmap.specs.IndexMap.{IndexMap, get, Updates}
+use Rattle.base_words.proofs.Booleans.{or_true, or_false}
 use Rattle.stoch_lines.specs.Places.{same_place}
 use Rattle.stoch_lines.specs.declared.places.StochEntry.{StochEntry}
 use Rattle.stoch_lines.specs.declared.places.StochPlace.{StochPlace}
 use Rattle.scenario_lists.specs.Distinct.{has_place, is_of}
 use Rattle.scenario_lists.specs.Kept.{ArePlaces}
-
-or_true : (b : Bool) → (b || true) ≡ true
-or_true true = refl
-or_true false = refl
-
-or_false : (b : Bool) → (b || false) ≡ b
-or_false true = refl
-or_false false = refl
 
 any_push : (p : StochEntry → Bool) (xs : List StochEntry) (x : StochEntry) → list_any p (xs ++ x ∷ []) ≡ (list_any p xs || p x)
 any_push p [] x = or_false (p x)

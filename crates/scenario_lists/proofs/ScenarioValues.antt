@@ -10,6 +10,7 @@ use Rattle.base_words.specs.FirstAnswers.{first_some}
 use Rattle.base_words.specs.Gathered.{gathered}
 use Rattle.base_words.proofs.FirstAnswers.{first_some-append}
 use Rattle.base_words.proofs.ListSumsByNumber.{range_more}
+use Rattle.base_words.proofs.NumberTests.{same_from_test}
 use Rattle.stoch_lines.specs.Places.{same_place}
 use Rattle.stoch_lines.specs.declared.places.StochEntry.{StochEntry}
 use Rattle.stoch_lines.specs.declared.places.StochPlace.{StochPlace}
@@ -18,15 +19,12 @@ use Rattle.smps_stoch.specs.LawWords.{value_at_place}
 use Rattle.smps_stoch.specs.StochFacts.{IsEarlier, no_branch}
 use Rattle.smps_stoch.specs.declared.stoch.Branch.{Branch}
 use Rattle.smps_stoch.specs.declared.stoch.Element.{Element}
-use Rattle.scenario_lists.specs.Combinations.{chosen_at, entries_at, entries_in, no_realisation, realisations_at}
+use Rattle.smps_stoch.specs.StochData.{no_realisation}
+use Rattle.scenario_lists.specs.Combinations.{chosen_at, entries_at, entries_in, realisations_at}
 use Rattle.scenario_lists.specs.Distinct.{first_of_each, has_place, is_of, with_entry}
 use Rattle.scenario_lists.specs.ScenarioList.{HaveParents, branch_scenarios, inherited, no_scenario, scenario_beside, scenario_in, with_branch}
 use Rattle.scenario_lists.specs.Values.{chosen_value, listed_value, parent_value}
 use Rattle.scenario_lists.specs.declared.data.ScenarioData.{ScenarioData}
-
--- places that are told the same are equal
-numbers_equal : (a b : ℕ) → (a == b) ≡ true → a ≡ b
-numbers_equal a b h = grind arith
 
 pair_left : (a b : Bool) → (a && b) ≡ true → a ≡ true
 pair_left true b h = refl
@@ -37,9 +35,9 @@ pair_right true b h = h
 pair_right false b h = cc
 
 one_place : (p q : StochPlace) → same_place p q ≡ true → p ≡ q
-one_place (Cost a) (Cost b) h = ap Cost (numbers_equal a b h)
-one_place (Cell a c) (Cell b d) h = ap (λ x. Cell x c) (numbers_equal a b (pair_left (a == b) (c == d) h)) ∙ ap (Cell b) (numbers_equal c d (pair_right (a == b) (c == d) h))
-one_place (Right a) (Right b) h = ap Right (numbers_equal a b h)
+one_place (Cost a) (Cost b) h = ap Cost (same_from_test a b h)
+one_place (Cell a c) (Cell b d) h = ap (λ x. Cell x c) (same_from_test a b (pair_left (a == b) (c == d) h)) ∙ ap (Cell b) (same_from_test c d (pair_right (a == b) (c == d) h))
+one_place (Right a) (Right b) h = ap Right (same_from_test a b h)
 one_place (Cost a) (Cell b d) h = cc
 one_place (Cost a) (Right b) h = cc
 one_place (Cell a c) (Cost b) h = cc

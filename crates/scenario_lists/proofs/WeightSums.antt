@@ -7,7 +7,8 @@ use Rattle.std.proofs.Math.Nat.{mul_assoc, mul_comm}
 use Rattle.std.proofs.Math.Seq.{get_or-append_seam}
 use Rattle.smps_stoch.specs.declared.stoch.Element.{Element}
 use Rattle.smps_stoch.specs.declared.stoch.Realisation.{Realisation}
-use Rattle.scenario_lists.specs.Combinations.{all_choices, choices_of, chosen_at, combinations, no_realisation, weight_below}
+use Rattle.smps_stoch.specs.StochData.{no_realisation}
+use Rattle.scenario_lists.specs.Combinations.{all_choices, choices_of, chosen_at, combinations, weight_below}
 use Rattle.scenario_lists.specs.ScenarioList.{weight_in}
 use Rattle.scenario_lists.specs.Values.{size_of, sums_product, weight_sum}
 use Rattle.scenario_lists.proofs.Order.{in_order}

@@ -1,10 +1,11 @@
 -- All combinations of the realisations of some elements, in order: the last element varies fastest.
-use Rattle.std.specs.Prelude.{◌≡◌, ℕ, zero, suc, ◌+◌, ◌*◌, ◌/◌, ◌%◌, ◌<◌, ◌≤◌, nat_le, if◌then◌else◌, List, [], ◌∷◌, ◌++◌, length, map, pos, slice_index, slice_index_or, unsigned_abs}
+use Rattle.std.specs.Prelude.{◌≡◌, ℕ, zero, suc, ◌+◌, ◌*◌, ◌/◌, ◌%◌, ◌<◌, ◌≤◌, nat_le, if◌then◌else◌, List, [], ◌∷◌, ◌++◌, length, map, slice_index, slice_index_or, unsigned_abs}
 use Rattle.std.specs.List.{flat_map, range_with_len}
 use Rattle.base_words.specs.Gathered.{gathered}
 use Rattle.stoch_lines.specs.declared.places.StochEntry.{StochEntry}
 use Rattle.smps_stoch.specs.declared.stoch.Element.{Element}
 use Rattle.smps_stoch.specs.declared.stoch.Realisation.{Realisation}
+use Rattle.smps_stoch.specs.StochData.{no_realisation}
 
 -- how many combinations there are: the product of the numbers of realisations
 abbrev pub combinations : List Element → ℕ
@@ -27,9 +28,6 @@ all_choices (e ∷ es) = flat_map (λ choice. map (λ rest. choice ∷ rest) (al
 -- what stands past the end of the elements, and of the realisations
 abbrev pub no_element : Element
 no_element = record { period = 0; realisations = [] }
-
-abbrev pub no_realisation : Realisation
-no_realisation = record { weight = pos 0; entries = [] }
 
 -- the realisations of element k
 abbrev pub realisations_at : List Element → ℕ → List Realisation

@@ -7,7 +7,8 @@ ghost use Rattle.smps_stoch.specs.LawWords.{value_at_place};
 ghost use Rattle.smps_stoch.specs.StochFacts.{no_branch};
 ghost use Rattle.smps_stoch.specs.declared.stoch.Branch.{Branch};
 ghost use Rattle.smps_stoch.specs.declared.stoch.Element.{Element};
-ghost use Rattle.scenario_lists.specs.Combinations.{choices_of, combinations, no_realisation};
+ghost use Rattle.smps_stoch.specs.StochData.{no_realisation};
+ghost use Rattle.scenario_lists.specs.Combinations.{choices_of, combinations};
 ghost use Rattle.scenario_lists.specs.ScenarioList.{HaveParents, scenario_in, weight_in};
 ghost use Rattle.scenario_lists.specs.Values.{chosen_value, listed_value, parent_value, size_of, sums_product};
 

@@ -1,12 +1,13 @@
 -- The facts of a core, out of those of the reader's state.
-use Rattle.std.proofs.Common.{◌≡◌, refl, sym, subst, ◌∙◌, ℕ, suc, zero, ◌+◌, ◌-◌, ◌≤◌, ◌<◌, ◌^◌, ◌==◌, Bool, true, false, List, [], ◌∷◌, length, get_or, inl, inr, arith, lit≤}
-use Rattle.std.specs.Prelude.{◌&&◌, if◌then◌else◌, Option, Some, None, unwrap_or, ℤ, pos, negsuc, neg_ℤ, unsigned_abs}
+use Rattle.std.proofs.Common.{◌≡◌, refl, sym, subst, ◌∙◌, ℕ, ◌+◌, ◌-◌, ◌≤◌, ◌<◌, ◌^◌, ◌==◌, Bool, true, false, List, [], ◌∷◌, length, get_or, inl, inr, arith, lit≤}
+use Rattle.std.specs.Prelude.{◌&&◌, if◌then◌else◌, Option, Some, None, unwrap_or, ℤ, pos}
 use Rattle.std.specs.List.{All, filter}
 use Rattle.std.proofs.lemmas.Bool.{cases_eq}
 use Rattle.std.proofs.lemmas.Grind.{common_steps}
 use Rattle.std.proofs.lemmas.List.Elements.{All-head, All-tail, All-map, All-filter, filter_passes}
 use Rattle.std.proofs.lemmas.List.FromFn.{length-map-range_with_len}
 use Rattle.std.proofs.lemmas.List.Sorted.{All-permutation}
+use Rattle.base_words.proofs.Magnitudes.{abs_opposite}
 use Rattle.dec_core.specs.declared.decimal.Decimal.{Decimal}
 use Rattle.smps_words.specs.CoreFacts.{CoreFacts, IsShort, end_size, is_empty_box, max_columns, max_end, max_rows, zero_decimal}
 use Rattle.smps_words.specs.Outcomes.{latest}
@@ -66,13 +67,8 @@ entries_placed cells m n rows columns = All-map (λ (e : CoreEntry). (e.row < m)
   All-filter is_entry (λ (c : Cell). c.column < n) cells columns k d lt,
 ))
 
-turned_size : (m : ℤ) → unsigned_abs (neg_ℤ m) ≡ unsigned_abs m
-turned_size (pos zero) = refl
-turned_size (pos (suc n)) = refl
-turned_size (negsuc n) = refl
-
 minus_short : (d : Decimal) → IsShort d → IsShort (minus d)
-minus_short d short = (short.0, subst (λ (n : ℕ). n ≤ 10 ^ 36) (sym (turned_size d.mantissa)) short.1)
+minus_short d short = (short.0, subst (λ (n : ℕ). n ≤ 10 ^ 36) (sym (abs_opposite d.mantissa)) short.1)
 
 placed_by : (b : Before) (entries : List CoreEntry) → AreEntriesOf b.columns.cells entries → All (λ (c : Cell). c.row ≤ length b.rows.names) b.columns.cells → All (λ (c : Cell). c.column < length b.columns.names) b.columns.cells → All (λ (e : CoreEntry). (e.row < length (rows_of b)) × (e.column < length (columns_of b))) entries
 placed_by b entries ordered rows columns =

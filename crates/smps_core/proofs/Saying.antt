@@ -163,7 +163,7 @@ kept_in p [] x k passes lt is = absurd (omega (arith, lt))
 kept_in {X} p (y ∷ ys) x zero passes lt is = subst (λ (t : Bool). Contains (cond t (y ∷ filter p ys) (filter p ys)) x) (sym (ap p is ∙ passes)) (0, omega arith, is)
 kept_in p (y ∷ ys) x (suc k) passes lt is = kept_item p y ys x (p y) (kept_in p ys x k passes (omega (arith, lt)) is)
 
-no_cell : Cell
+pub no_cell : Cell
 no_cell = record { row = 0; column = 0; value = zero_decimal; line = 0 }
 
 back : (c : Cell) → is_entry c ≡ true → cell_at (entry_of c) ≡ c

@@ -10,12 +10,13 @@ use Rattle.std.proofs.lemmas.List.Elements.{All-map, All-filter, filter-append, 
 use Rattle.std.proofs.lemmas.List.Kept.{AllPairs-filter}
 use Rattle.std.proofs.lemmas.List.Sorted.{All-permutation}
 use Rattle.std.proofs.lemmas.Map.Keys.{IsDistinct-from_apart, IsDistinct-IsPermutation, apart_from_distinct}
-use Rattle.smps_words.specs.CoreFacts.{ComesBefore, entry_at, max_rows, no_entry, zero_decimal}
+use Rattle.smps_words.specs.CoreFacts.{ComesBefore, entry_at, max_rows, no_entry}
 use Rattle.smps_words.specs.declared.core_data.CoreEntry.{CoreEntry}
 use Rattle.core_lines.specs.ColumnLines.{is_cell_of}
 use Rattle.core_lines.specs.declared.cells.Cell.{Cell}
 use Rattle.smps_core.specs.CoreData.{AreEntriesOf, entries_of, entry_of, is_entry}
 use Rattle.smps_core.specs.Entries.{AreApart, place_number}
+use Rattle.smps_core.proofs.Saying.{no_cell}
 
 kept_more : (kept : List Cell) (cell : Cell) (t : Bool) → map entry_of kept ++ map entry_of (cond t (cell ∷ []) []) ≡ (if t then map entry_of kept ++ entry_of cell ∷ [] else map entry_of kept)
 kept_more kept cell true = refl
@@ -35,9 +36,6 @@ entry_more cells i cell entries new lt at before is =
     ∙ sym (one_more (take i cells) cell)
     ∙ ap (λ (c : Cell). entries_of (take i cells ++ c ∷ [])) at
     ∙ sym (ap entries_of (take_more cells i cell lt))
-
-no_cell : Cell
-no_cell = record { row = 0; column = 0; value = zero_decimal; line = 0 }
 
 -- whether two entries are of one place
 abbrev is_same_entry : CoreEntry → CoreEntry → Bool

@@ -17,7 +17,8 @@ use Rattle.smps_stoch.specs.declared.stoch.Stoch.{Stoch}
 use Rattle.smps_stoch.specs.declared.stoch.Stoch.TheVariants.{Product, Scenarios}
 use Rattle.stoch_lines.specs.Places.{same_place}
 use Rattle.stoch_lines.specs.declared.places.StochEntry.{StochEntry}
-use Rattle.scenario_lists.specs.Combinations.{AreChoices, choices_of, chosen_at, combinations, entries_at, entries_in, no_element, no_realisation, realisations_at, weight_below}
+use Rattle.smps_stoch.specs.StochData.{no_realisation}
+use Rattle.scenario_lists.specs.Combinations.{AreChoices, choices_of, chosen_at, combinations, entries_at, entries_in, no_element, realisations_at, weight_below}
 use Rattle.scenario_lists.specs.Distinct.{first_of_each, has_place, with_entry}
 use Rattle.scenario_lists.specs.ScenarioList.{branch_scenarios, count_of, inherited, no_scenario, product_scenario_at, product_scenarios, scenario_beside, scenarios_of, with_branch}
 use Rattle.scenario_lists.specs.declared.data.ScenarioData.{ScenarioData}

@@ -4,6 +4,7 @@ use Rattle.std.specs.List.{All, Any, cons_option, filter_map, sum_by}
 use Rattle.std.proofs.lemmas.List.{length-map}
 use Rattle.std.proofs.lemmas.List.FromFn.{length-map-range_with_len}
 use Rattle.std.proofs.lemmas.List.Sums.{sum_by-cons}
+use Rattle.base_words.proofs.Booleans.{or_left}
 use Rattle.boxed_problem.specs.BoxedFacts.{limits_size}
 use Rattle.boxed_problem.specs.declared.parts.Entry.{Entry}
 use Rattle.capped_num.specs.Capped.{capped}
@@ -101,10 +102,6 @@ or_right_true : (a b : Bool) → b ≡ true → (a || b) ≡ true
 or_right_true true b h = refl
 or_right_true false b h = h
 
-or_left_false : (a b : Bool) → (a || b) ≡ false → a ≡ false
-or_left_false true b h = h
-or_left_false false b h = refl
-
 -- more scenarios than there may be
 pub crowded : (n : ℕ) → (n ≤ 4096 → ⊥) → nat_lt 4096 n ≡ true
 crowded n h = by_test (nat_lt 4096 n) refl h
@@ -130,7 +127,7 @@ module _ (core : Core) (periods : Periods) (stoch : Stoch) (options : Options) w
 
   -- memory is asked for where neither an entry is early nor there are too many scenarios or cells
   pub few_listed : is_too_large source ≡ false → has_many_listed source ≡ false
-  few_listed few = or_left_false (has_many_listed source) (has_many_changes source) few
+  few_listed few = or_left (has_many_listed source) (has_many_changes source) few
 
   pub memory_refused : IsTimely source → is_crowded source ≡ false → is_too_large source ≡ false → IsRefused source options Memory
   memory_refused timely few cells = (timely, few, few_listed cells)

@@ -13,6 +13,7 @@ use Rattle.std.proofs.lemmas.List.Sums.{sum_by-cons}
 use Rattle.base_words.specs.ListSums.{sum_z}
 use Rattle.base_words.proofs.Comparisons.{both_right}
 use Rattle.base_words.proofs.ListSums.{sum_z-cons}
+use Rattle.base_words.proofs.Booleans.{or_left}
 use Rattle.smps_words.specs.CoreFacts.{IsShort}
 use Rattle.smps_words.specs.declared.core_file.Core.{Core}
 use Rattle.smps_words.specs.declared.periods.Periods.{Periods}
@@ -193,10 +194,6 @@ options_are core periods stoch options can =
       some_missing = o.some_missing;
       missing = o.missing;
     }
-
-or_left : (a b : Bool) → (a || b) ≡ false → a ≡ false
-or_left true b h = h
-or_left false b h = refl
 
 or_right : (a b : Bool) → (a || b) ≡ false → b ≡ false
 or_right true b h = absurd (let z = h in cc)

@@ -3,7 +3,8 @@ use Rattle.std.proofs.Common.{◌≡◌, refl, sym, subst, ℕ, ◌+◌, ◌^◌
 use Rattle.std.specs.Prelude.{if◌then◌else◌, position, unwrap_or, option_map, is_none}
 use Rattle.std.specs.Result.{result_unwrap_or}
 use Rattle.std.specs.Str.{bytes_eq}
-use Rattle.dec_core.proofs.LimitLaws.{magnitude_of, within_is}
+use Rattle.wide_num.proofs.LowestLemmas.{magnitude_of}
+use Rattle.dec_core.proofs.LimitLaws.{within_is}
 use Rattle.dec_core.specs.DecimalValue.{decimal_of, decimal_of_spelling, mantissa_of, places_of}
 use Rattle.dec_core.specs.Spelling.{Spelling, spelling_of}
 use Rattle.dec_core.specs.declared.decimal.Decimal.{Decimal}

@@ -7,11 +7,11 @@ use Rattle.std.proofs.lemmas.List.{append-nil, get_or_at}
 use Rattle.std.proofs.lemmas.List.Elements.{All-nil, All-cons}
 use Rattle.std.proofs.lemmas.Option.{unwrap_or-slice_get}
 use Rattle.smps_words.specs.Tables.{first_true, ◌or◌}
-use Rattle.smps_words.specs.TextLines.{TextLine, field, field_count, is_header}
+use Rattle.smps_words.specs.TextLines.{TextLine, field, field_count, is_header, is_end}
 use Rattle.smps_words.specs.declared.core_file.Core.{Core}
 use Rattle.smps_words.specs.declared.periods.Periods.{Periods}
 use Rattle.stoch_lines.specs.Before.{Before, next}
-use Rattle.stoch_lines.specs.Faults.{block_data_fault, block_fault, branching_stage, data_fault, has_mode, header_fault, indep_fault, indep_form, indep_rules, is_end, is_repeated, is_taken, is_twice_in_block, line_fault, may_follow, named_fault, own_period, pair_fault, pairs_fault, places_at, places_rules, probability_fault, scenario_data_fault, scenario_fault, section_fault}
+use Rattle.stoch_lines.specs.Faults.{block_data_fault, block_fault, branching_stage, data_fault, has_mode, header_fault, indep_fault, indep_form, indep_rules, is_repeated, is_taken, is_twice_in_block, line_fault, may_follow, named_fault, own_period, pair_fault, pairs_fault, places_at, places_rules, probability_fault, scenario_data_fault, scenario_fault, section_fault}
 use Rattle.stoch_lines.specs.Places.{anticipates, stage_of_place}
 use Rattle.stoch_lines.specs.Sayings.{begins_block, begins_scenario, block_saying, chosen_by, element_of, entries_at, entries_in, entry_at, heading_of, indep_saying, is_scenarios, last_element, last_field, named_period, owned_by, saying_in, scenario_head}
 use Rattle.stoch_lines.specs.declared.entries.Owned.{Owned}

@@ -10,13 +10,13 @@ use Rattle.line_core.specs.declared.line_list.LineFault.{LineFault}
 use Rattle.line_core.specs.declared.line_list.LineFault.TheVariants as line_faults
 use Rattle.smps_words.specs.Outcomes.{Outcome, answer_of, judged}
 use Rattle.smps_words.specs.Outcomes.Outcome.{Faulty, Ended, Endless}
-use Rattle.smps_words.specs.TextLines.{TextLine, last_number, text_lines}
+use Rattle.smps_words.specs.TextLines.{TextLine, last_number, text_lines, is_end}
 use Rattle.smps_words.specs.declared.core_file.Core.{Core}
 use Rattle.smps_words.specs.declared.periods.Periods.{Periods}
 use Rattle.stoch_lines.proofs.Adding.{stepped_is}
 use Rattle.stoch_lines.proofs.Positions.{any_some, position_none}
 use Rattle.stoch_lines.specs.Before.{Before, next, nothing_said}
-use Rattle.stoch_lines.specs.Faults.{is_end, line_fault, max_scenarios, own_period}
+use Rattle.stoch_lines.specs.Faults.{line_fault, max_scenarios, own_period}
 use Rattle.stoch_lines.specs.Places.{same_source}
 use Rattle.stoch_lines.specs.Sayings.{chosen_by, element_of, new_periods, with_source}
 use Rattle.stoch_lines.specs.StochOutcome.{read_meaning, said_meaning, said_whole, stepped, stepped_from}

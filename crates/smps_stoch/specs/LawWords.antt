@@ -4,11 +4,11 @@ use Rattle.std.specs.List.{list_any, Contains}
 use Rattle.std.specs.Option.{option_map, option_or}
 use Rattle.dec_core.specs.declared.decimal.Decimal.{Decimal}
 use Rattle.smps_words.specs.FirstPlaces.{CleanTo}
-use Rattle.smps_words.specs.TextLines.{TextLine, field, no_line}
+use Rattle.smps_words.specs.TextLines.{TextLine, field, no_line, is_end}
 use Rattle.smps_words.specs.declared.core_file.Core.{Core}
 use Rattle.smps_words.specs.declared.periods.Periods.{Periods}
 use Rattle.stoch_lines.specs.Before.{blocks_of, names_of, sayings_of, section_of, Before}
-use Rattle.stoch_lines.specs.Faults.{is_end, is_given, is_taken}
+use Rattle.stoch_lines.specs.Faults.{is_given, is_taken}
 use Rattle.stoch_lines.specs.Places.{same_place, same_source}
 use Rattle.stoch_lines.specs.Sayings.{begins_block, begins_scenario, block_number, entries_at, entry_at, is_block_line, is_scenarios}
 use Rattle.stoch_lines.specs.StochOutcome.{fault_after}

@@ -6,10 +6,11 @@ use Rattle.std.proofs.lemmas.List.{append-nil, map-append}
 use Rattle.std.proofs.lemmas.List.Elements.{filter-append}
 use Rattle.std.proofs.lemmas.List.Folds.{list_any-append}
 use Rattle.std.specs.Option.{unwrap_or}
+use Rattle.base_words.proofs.Booleans.{or_false}
 use Rattle.smps_words.specs.Outcomes.{GoesOn, seen_by}
-use Rattle.smps_words.specs.TextLines.{TextLine, field, is_header}
+use Rattle.smps_words.specs.TextLines.{TextLine, field, is_header, is_end}
 use Rattle.smps_words.proofs.FoldLaw.{fold_is}
-use Rattle.smps_time.specs.TimeFile.{CoreNames, before_of, column_named, is_end, line_fault, period_adds, period_lines, place_named, with_line}
+use Rattle.smps_time.specs.TimeFile.{CoreNames, before_of, column_named, line_fault, period_adds, period_lines, place_named, with_line}
 use Rattle.smps_time.specs.TimeAnswers.{time_outcome}
 use Rattle.smps_time.specs.Reading.{added}
 
@@ -19,10 +20,6 @@ period_by f lines line false e = rw (filter-append, e, map-append) refl
 
 begun_by : (lines : List TextLine) (line : TextLine) → not (length (lines ++ line ∷ []) == 0) ≡ true
 begun_by lines line = grind (arith, common_steps)
-
-or_false : (b : Bool) → (b || false) ≡ b
-or_false true = refl
-or_false false = refl
 
 opened_by : (lines : List TextLine) (line : TextLine) → list_any (is_header (codes "PERIODS")) (lines ++ line ∷ []) ≡ (list_any (is_header (codes "PERIODS")) lines || is_header (codes "PERIODS") line)
 opened_by lines line = list_any-append (is_header (codes "PERIODS")) lines (line ∷ []) ∙ ap (λ b. list_any (is_header (codes "PERIODS")) lines || b) (or_false (is_header (codes "PERIODS") line))

@@ -8,9 +8,9 @@ use Rattle.line_core.specs.SplitLines.{lines_of}
 use Rattle.line_core.specs.declared.line_list.Line.{Line}
 use Rattle.smps_words.specs.Outcomes.{Outcome, answer_of, judged}
 use Rattle.smps_words.specs.Outcomes.Outcome.{Faulty, Ended}
-use Rattle.smps_words.specs.TextLines.{TextLine, last_number, text_line, text_lines}
+use Rattle.smps_words.specs.TextLines.{TextLine, last_number, text_line, text_lines, is_end}
 use Rattle.smps_words.specs.declared.periods.Periods.{Periods}
-use Rattle.smps_time.specs.TimeFile.{CoreNames, Before, is_end, line_fault, with_line}
+use Rattle.smps_time.specs.TimeFile.{CoreNames, Before, line_fault, with_line}
 use Rattle.smps_time.specs.TimeAnswers.{PeriodsData, Fails, Gives, data_of, periods_in, read_meaning, time_meaning}
 use Rattle.smps_time.specs.Reading.{Reads, Refuses, added, added_from, before_in}
 use Rattle.smps_time.specs.declared.time_reading.Reading.{Reading}

@@ -6,11 +6,11 @@ use Rattle.smps_words.specs.CoreFacts.{max_columns, max_rows}
 use Rattle.smps_words.specs.PeriodFacts.{max_periods}
 use Rattle.smps_words.specs.Outcomes.{Outcome, answer_of, folded}
 use Rattle.smps_words.specs.Outcomes.Outcome.{Ended}
-use Rattle.smps_words.specs.TextLines.{TextLine, last_number, text_lines, text_of}
+use Rattle.smps_words.specs.TextLines.{TextLine, last_number, text_lines, text_of, is_end}
 use Rattle.smps_words.specs.declared.core_file.Core.{Core}
 use Rattle.smps_words.specs.declared.file_line.FileLine.{FileLine}
 use Rattle.smps_time.specs.TimeAnswers.{Fails, names_of, periods_in}
-use Rattle.smps_time.specs.TimeFile.{CoreNames, Before, before_of, column_named, is_end, is_in_order, line_fault, place_named, with_line}
+use Rattle.smps_time.specs.TimeFile.{CoreNames, Before, before_of, column_named, is_in_order, line_fault, place_named, with_line}
 use Rattle.smps_time.specs.declared.time_fault.TimeKind.{TimeKind}
 use Rattle.smps_time.specs.declared.time_fault.TimeKind.TheVariants.{NoEnd}
 use Rattle.smps_time.specs.declared.time_fault.TimeFault.{TimeFault}

@@ -5,10 +5,10 @@ use Rattle.line_core.specs.declared.line_list.Line.{Line}
 use Rattle.line_core.specs.declared.line_list.LineFault.{LineFault}
 use Rattle.line_core.specs.declared.line_list.LineFault.TheVariants as lines
 use Rattle.smps_words.specs.Outcomes.{Outcome, answer_of, outcome, seen_by}
-use Rattle.smps_words.specs.TextLines.{TextLine, last_number, text_lines}
+use Rattle.smps_words.specs.TextLines.{TextLine, last_number, text_lines, is_end}
 use Rattle.smps_words.specs.declared.core_file.Core.{Core}
 use Rattle.smps_words.specs.declared.periods.Periods.{Periods}
-use Rattle.smps_time.specs.TimeFile.{CoreNames, Before, before_of, fault_after, is_end}
+use Rattle.smps_time.specs.TimeFile.{CoreNames, Before, before_of, fault_after}
 use Rattle.smps_time.specs.declared.time_fault.TimeKind.{TimeKind}
 use Rattle.smps_time.specs.declared.time_fault.TimeKind.TheVariants.{NotAscii, LongLine, NoEnd}
 use Rattle.smps_time.specs.declared.time_fault.TimeFault.{TimeFault}

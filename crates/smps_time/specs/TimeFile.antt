@@ -108,10 +108,6 @@ line_fault core before line =
 abbrev pub fault_after : CoreNames → List TextLine → TextLine → Option TimeKind
 fault_after core before line = line_fault core (before_of core before) line
 
--- the line after which nothing is read
-abbrev pub is_end : TextLine → Bool
-is_end line = is_header (codes "ENDATA") line
-
 -- what lines say with one more
 abbrev pub period_adds : {X : Type 0} → TextLine → X → List X
 period_adds line value = if line.header then [] else value ∷ []

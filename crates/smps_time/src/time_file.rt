@@ -2,12 +2,12 @@ ghost use Rattle.std.specs.Prelude.{◌≡◌, ◌≤◌, [], length, Err, List,
 ghost use Rattle.smps_words.specs.Memory.{MayRefuse};
 ghost use Rattle.smps_words.specs.PeriodFacts.{min_periods};
 ghost use Rattle.smps_words.specs.FirstPlaces.{Says};
-ghost use Rattle.smps_words.specs.TextLines.{TextLine, last_number, text_lines};
+ghost use Rattle.smps_words.specs.TextLines.{TextLine, last_number, text_lines, is_end};
 ghost use Rattle.smps_time.specs.Reading.{before_in, Keeps, ReadsLines};
 ghost use Rattle.smps_time.specs.TimeAnswers.{data_of, names_of, periods_in, rows_at, time_meaning, time_outcome, Gives};
 ghost use Rattle.smps_time.specs.declared.time_fault.TimeFault.TheVariants.{At, Memory};
 ghost use Rattle.smps_time.specs.declared.time_fault.TimeKind.TheVariants.{NoEnd};
-ghost use Rattle.smps_time.specs.TimeFile.{CoreNames, fault_after, is_end};
+ghost use Rattle.smps_time.specs.TimeFile.{CoreNames, fault_after};
 
 use crate::time_fault::{TimeFault, TimeKind};
 use crate::time_reading::Reading;

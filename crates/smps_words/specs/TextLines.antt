@@ -1,5 +1,5 @@
 -- Lines with the texts of their fields, in place of the spans.
-use Rattle.std.specs.Prelude.{ℕ, ◌-◌, Bool, false, ◌&&◌, List, [], length, map, slice_index_or}
+use Rattle.std.specs.Prelude.{ℕ, ◌-◌, Bool, false, ◌&&◌, List, [], length, map, slice_index_or, codes}
 use Rattle.std.specs.Str.{bytes_eq}
 use Rattle.line_core.specs.Fields.{span_text}
 use Rattle.line_core.specs.declared.line_list.Line.{Line}
@@ -46,3 +46,7 @@ no_line = record { number = 0; header = false; fields = [] }
 -- the number of the last line, 0 where there is none
 abbrev pub last_number : List TextLine → ℕ
 last_number lines = (slice_index_or lines (length lines - 1) no_line).number
+
+-- the line after which nothing is read
+abbrev pub is_end : TextLine → Bool
+is_end line = is_header (codes "ENDATA") line

@@ -4,7 +4,9 @@ use Rattle.std.proofs.Common.{arith, refl, sym, ap, subst, ◌∙◌, ◌≡◌,
 use Rattle.std.specs.List.{insert}
 use Rattle.boxed_problem.specs.BoxedFacts.{ComesBefore, entry_at, no_entry}
 use Rattle.boxed_problem.specs.declared.parts.Entry.{Entry}
-use Rattle.sp_model.specs.Changes.{is_at, is_before, place_of, put_entry, stands_at}
+use Rattle.sp_model.specs.Changes.{Data, is_at, is_before, place_of, put_entry, stands_at, with_change}
+use Rattle.sp_model.specs.declared.program.Change.{Change}
+use Rattle.sp_model.specs.declared.program.Change.TheVariants.{Cost, Cell, Limits}
 
 -- an entry put at a place of a list
 abbrev put_at : Entry → List Entry → ℕ → Bool → List Entry
@@ -93,6 +95,19 @@ put_chain e (g ∷ fs) chain = by_before (is_before g e) refl (is_at g e) refl
     by_before true b u a = subst IsChain (sym (put_behind e g fs b)) (chain_behind e g fs (before_is g e b) chain)
     by_before false b true a = subst IsChain (sym (put_over e g fs b a)) (over_head e g fs a chain)
     by_before false b false a = subst IsChain (sym (put_front e g fs b a)) (after_is g e b a, chain)
+
+-- a change keeps the order
+pub change_chain : (d : Data) (c : Change) → IsChain d.entries → IsChain (with_change d c).entries
+change_chain d (Cost column value) h = h
+change_chain d (Cell row column value) h = put_chain (record { row = row; column = column; value = value }) d.entries h
+change_chain d (Limits row lower upper) h = h
+
+-- what isn't one place isn't one the other way round
+pub swapped : (a b : Bool) → (a && b) ≡ false → (b && a) ≡ false
+swapped true true h = h
+swapped true false h = refl
+swapped false true h = refl
+swapped false false h = refl
 
 -- a chain is a list whose neighbours are in order
 pub chain_from : (fs : List Entry) → ((k : ℕ) → k + 1 < length fs → ComesBefore (entry_at fs k) (entry_at fs (k + 1))) → IsChain fs

@@ -57,7 +57,7 @@ pub total_abs_is : (run : Run) → unsigned_abs run.total ≡ size_below (scenar
 total_abs_is run = ap unsigned_abs (total_is run)
 
 -- the factors of the first scenarios
-factors_le : (run : Run) (k : ℕ) → k ≤ scenarios run → size_below k (λ s. unsigned_abs (factor_of run s)) ≤ unsigned_abs run.options.scale * unsigned_abs run.total
+pub factors_le : (run : Run) (k : ℕ) → k ≤ scenarios run → size_below k (λ s. unsigned_abs (factor_of run s)) ≤ unsigned_abs run.options.scale * unsigned_abs run.total
 factors_le run k h =
     let scale = unsigned_abs run.options.scale in
     let each = size_below-mono k (λ s. unsigned_abs (factor_of run s)) (λ s. scale * weight_size run s) (λ s l. omega (arith, unsigned_abs-mul run.options.scale (scenario_at run s).weight)) in

@@ -4,9 +4,9 @@ use Rattle.std.proofs.Common.{arith, refl, sym, ap, subst, ◌∙◌, ◌≡◌,
 use Rattle.std.proofs.lemmas.List.{append_assoc, drop-drop, length-drop, drop_all, drop_more}
 use Rattle.std.proofs.lemmas.List.Sums.{prefix_len-le-length}
 use Rattle.base_words.proofs.Comparisons.{both_left}
-use Rattle.boxed_problem.specs.BoxedFacts.{no_entry}
+use Rattle.boxed_problem.specs.BoxedFacts.{no_entry, AreAscending}
 use Rattle.boxed_problem.specs.declared.parts.Entry.{Entry}
-use Rattle.sp_model.specs.Changes.{AreAscending, is_at, is_before, passed_by, place_of, put_entries, put_entry, stands_at}
+use Rattle.sp_model.specs.Changes.{is_at, is_before, passed_by, place_of, put_entries, put_entry, stands_at}
 use Rattle.sp_model.proofs.EntryOrder.{behind_test, chain_at, chain_from, front_test, IsChain, put_behind, put_front, put_over}
 use Rattle.sp_model.proofs.Putting.{all_after, all_behind, AllAfter, chain_tail, puts_append, puts_chain, puts_join}
 

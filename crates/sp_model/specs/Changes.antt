@@ -1,8 +1,8 @@
 -- The data of a scenario: the core's, with each change of the scenario in its place.
 
-use Rattle.std.specs.Prelude.{ℕ, ◌+◌, ◌<◌, ◌==◌, ◌&&◌, nat_lt, Bool, List, [], ◌∷◌, ◌++◌, length, map, ℤ, slice_set, slice_index_or, if◌then◌else◌}
+use Rattle.std.specs.Prelude.{ℕ, ◌+◌, ◌==◌, ◌&&◌, nat_lt, Bool, List, [], ◌∷◌, ◌++◌, length, map, ℤ, slice_set, slice_index_or, if◌then◌else◌}
 use Rattle.std.specs.List.{fold, insert, prefix_len}
-use Rattle.boxed_problem.specs.BoxedFacts.{ComesBefore, entry_at, no_entry}
+use Rattle.boxed_problem.specs.BoxedFacts.{no_entry}
 use Rattle.boxed_problem.specs.declared.parts.Entry.{Entry}
 use Rattle.boxed_problem.specs.declared.parts.Limits.{Limits}
 use Rattle.boxed_problem.specs.declared.parts.Side.{Side}
@@ -60,10 +60,6 @@ put_entries es fs = fold (λ all f. put_entry f all) es fs
 -- of its place
 abbrev pub passed_by : Entry → List Entry → ℕ
 passed_by e fs = if stands_at e fs (place_of e fs) then place_of e fs + 1 else place_of e fs
-
--- ascending by column, and by row within a column
-abbrev pub AreAscending : List Entry → Type 0
-AreAscending es = (k : ℕ) → k + 1 < length es → ComesBefore (entry_at es k) (entry_at es (k + 1))
 
 -- the entry that a change gives, if it gives one
 abbrev pub cell_of : Change → List Entry

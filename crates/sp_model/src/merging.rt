@@ -1,5 +1,6 @@
 ghost use Rattle.std.specs.Prelude.{◌≡◌, [], ◌∷◌, ◌++◌, take, IfOk, OnOk};
-ghost use Rattle.sp_model.specs.Changes.{AreAscending, passed_by, place_of, put_entries};
+ghost use Rattle.boxed_problem.specs.BoxedFacts.{AreAscending};
+ghost use Rattle.sp_model.specs.Changes.{passed_by, place_of, put_entries};
 
 use crate::placing::{place_of, stands_at};
 use boxed_problem::Entry;

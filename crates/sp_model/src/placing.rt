@@ -3,8 +3,8 @@ ghost use Rattle.sp_model.specs.Changes.{is_at, is_before, place_of, stands_at};
 
 use boxed_problem::Entry;
 
-// Whether an entry stands before the place of another, by column and then by row.
-fn is_before(entry: &Entry, other: &Entry) -> bool
+/// Whether an entry stands before the place of another, by column and then by row.
+pub fn is_before(entry: &Entry, other: &Entry) -> bool
     ensures { result ≡ is_before entry.now other.now }
 {
     if entry.column == other.column {

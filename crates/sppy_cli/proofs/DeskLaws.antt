@@ -1,5 +1,5 @@
 -- What the top call answers, from what the loads gave and what was written.
-use Rattle.std.proofs.Common.{◌≡◌, inl, inr, List, ℕ, Option, Some, None, refl, sym, subst}
+use Rattle.std.proofs.Common.{◌≡◌, inl, inr, ℕ, Option, Some, None, refl, sym, subst}
 use Rattle.io_edge.specs.Faults.{CountsTo}
 use Rattle.io_edge.specs.Shelves.{FileTable}
 use Rattle.run_words.specs.Words.{Request}
@@ -13,12 +13,8 @@ use Rattle.sppy_cli.specs.declared.instance.Instance.{Instance}
 use Rattle.sppy_cli.specs.declared.status.InputFile.TheVariants as file
 use Rattle.sppy_cli.specs.declared.status.Status.{Status}
 use Rattle.sppy_cli.specs.declared.status.Status.TheVariants as status
-
-abbrev Written : Type 0
-Written = Option (List ℕ)
-
-abbrev Names : Type 0
-Names = Option (List (List ℕ))
+use Rattle.sppy_cli.proofs.Turns.{Names}
+use Rattle.sppy_cli.proofs.TextLaws.{Written}
 
 -- the answers of a request with a run, and of one without
 pub answers_from_run : (files : Option FileTable) (asked : Option Request) (request : Request) (i : Instance) (old new : Written) (s : Status) → asked ≡ Some request → IsInstanceOf files request i → Writes request.action i old new s → Answers files asked old new s

@@ -8,14 +8,14 @@ use Rattle.line_core.specs.declared.line_list.Line.{Line}
 use Rattle.line_core.specs.declared.line_list.LineFault.{LineFault}
 use Rattle.line_core.specs.declared.line_list.LineFault.TheVariants as lines
 use Rattle.smps_time.specs.TimeAnswers.{PeriodsData, data_of, names_of, periods_in, read_meaning, time_meaning, time_outcome}
-use Rattle.smps_time.specs.TimeFile.{Before, CoreNames, before_of, column_named, fault_after, header_fault, is_end, is_in_order, period_fault, period_lines, place_named}
+use Rattle.smps_time.specs.TimeFile.{Before, CoreNames, before_of, column_named, fault_after, header_fault, is_in_order, period_fault, period_lines, place_named}
 use Rattle.smps_time.specs.declared.time_fault.TimeKind.{TimeKind}
 use Rattle.smps_time.specs.declared.time_fault.TimeKind.TheVariants.{Fields, Limit, NoEnd, Order, Section, Twice, Unknown}
 use Rattle.smps_words.specs.Outcomes.{Outcome, answer_of, judged, outcome, seen_by}
 use Rattle.smps_words.specs.Outcomes.Outcome.{Faulty, Ended, Endless}
 use Rattle.smps_words.specs.PeriodFacts.{max_periods}
 use Rattle.smps_words.specs.Tables.{first_true}
-use Rattle.smps_words.specs.TextLines.{TextLine, field, field_count, last_number, text_lines}
+use Rattle.smps_words.specs.TextLines.{TextLine, field, field_count, last_number, text_lines, is_end}
 use Rattle.smps_words.specs.declared.core_file.Core.{Core}
 use Rattle.smps_words.specs.declared.periods.Periods.{Periods}
 

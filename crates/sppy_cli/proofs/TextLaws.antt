@@ -1,9 +1,9 @@
 -- Texts put part after part: what was written where a part was put whole, and where one was cut.
-use Rattle.std.proofs.Common.{arith, ◌≡◌, ◌≤◌, inl, inr, ℤ, List, [], ◌∷◌, ℕ, suc, zero, ◌+◌, ◌++◌, Option, Some, Result, Ok, Err, refl, sym, ap, ◌∙◌, subst, take, drop, add-one, append-nil, append_assoc, take-append-drop}
+use Rattle.std.proofs.Common.{arith, ◌≡◌, ◌≤◌, inl, inr, ℤ, List, [], ◌∷◌, ℕ, ◌+◌, ◌++◌, Option, Some, Result, Ok, Err, refl, sym, ap, ◌∙◌, subst, take, drop, add-one, append-nil, append_assoc, take-append-drop}
 use Rattle.std.specs.List.{concat, flat_map, range_with_len}
 use Rattle.std.proofs.lemmas.Grind.{flat_map-append}
 use Rattle.std.proofs.lemmas.List.Folds.{concat-append}
-use Rattle.base_words.proofs.ListSumsByNumber.{range_more}
+use Rattle.base_words.proofs.ListSumsByNumber.{range_more, take_range}
 use Rattle.io_edge.proofs.Writing.{appended_twice, front_after, front_of_front, front_whole}
 use Rattle.io_edge.specs.Sinks.{AppendsFront, appended}
 use Rattle.run_words.specs.declared.command.Action.{Action}
@@ -17,7 +17,7 @@ use Rattle.text_lines.specs.BoundLines.{IsBoundText}
 use Rattle.text_lines.specs.Headings.{unit_of}
 use Rattle.text_lines.specs.ShowLines.{all_scenario_lines, column_lines_of, row_lines_of}
 
-abbrev Written : Type 0
+abbrev pub Written : Type 0
 Written = Option (List ℕ)
 
 -- a text that was cut, of which a further part wasn't begun
@@ -62,12 +62,6 @@ parts_more f n =
     ∙ concat-append (flat_map f (range_with_len 0 n)) (f n ++ [])
     ∙ ap (λ lines. parts_below f n ++ concat lines) (append-nil (f n))
 
--- the first numbers of a range
-front_numbers : (a n m : ℕ) → m ≤ n → take m (range_with_len a n) ≡ range_with_len a m
-front_numbers a n zero h = refl
-front_numbers a zero (suc m) h = absurd (omega arith)
-front_numbers a (suc n) (suc m) h = ap (λ ns. a ∷ ns) (front_numbers (a + 1) n m (omega arith))
-
 -- the parts from m on
 abbrev parts_from : (ℕ → List (List ℕ)) → ℕ → ℕ → List ℕ
 parts_from f m n = concat (flat_map f (drop m (range_with_len 0 n)))
@@ -77,7 +71,7 @@ parts_split f m n h =
     ap (λ ns. concat (flat_map f ns)) (sym (take-append-drop m (range_with_len 0 n)))
     ∙ ap concat (flat_map-append f (take m (range_with_len 0 n)) (drop m (range_with_len 0 n)))
     ∙ concat-append (flat_map f (take m (range_with_len 0 n))) (flat_map f (drop m (range_with_len 0 n)))
-    ∙ ap (λ ns. concat (flat_map f ns) ++ parts_from f m n) (front_numbers 0 n m h)
+    ∙ ap (λ ns. concat (flat_map f ns) ++ parts_from f m n) (take_range 0 n m h)
 
 -- part m more was put
 pub part_put : (f : ℕ → List (List ℕ)) (m : ℕ) (old mid new : Written) → mid ≡ appended old (parts_below f m) → new ≡ appended mid (concat (f m)) → new ≡ appended old (parts_below f (m + 1))

@@ -23,7 +23,7 @@ use Rattle.sppy_cli.specs.declared.status.InputFile.{InputFile}
 use Rattle.sppy_cli.specs.declared.status.InputFile.TheVariants as file
 use Rattle.sppy_cli.specs.declared.status.Status.{Status}
 
-abbrev Names : Type 0
+abbrev pub Names : Type 0
 Names = Option (List (List ℕ))
 
 with_names-more : (old : Names) (first second : List (List ℕ)) → with_names (with_names old first) second ≡ with_names old (first ++ second)

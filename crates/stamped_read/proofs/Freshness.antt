@@ -4,7 +4,8 @@ use Rattle.std.specs.List.{range_with_len}
 use Rattle.std.proofs.lemmas.List.FromFn.{get_or-map-range_with_len, length-map-range_with_len, map-range_with_len_more}
 use Rattle.wide_num.specs.RoomContents.{Contents}
 use Rattle.window_words.specs.declared.views.View.{View}
-use Rattle.stamped_read.specs.Readers.{IsReader, room_of, with_room, fresh_part, fresh_reader}
+use Rattle.window_words.specs.Rooms.{with_room, room_of}
+use Rattle.stamped_read.specs.Readers.{IsReader, fresh_part, fresh_reader}
 use Rattle.stamped_read.specs.Promises.{ReadsFor}
 
 abbrev leaders_parts : (ℕ → ℕ) → ℕ → List (Contents ℕ)

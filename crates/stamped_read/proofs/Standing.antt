@@ -9,11 +9,12 @@ use Rattle.window_words.specs.declared.views.View.{View}
 use Rattle.window_words.specs.declared.views.Reading.{Reading}
 use Rattle.window_words.specs.declared.views.Call.TheVariants as call
 use Rattle.window_words.proofs.Listed.{length_push}
+use Rattle.window_words.specs.Rooms.{with_room, room_of}
 use Rattle.stamped_read.specs.declared.read.Again.{Again}
 use Rattle.stamped_read.specs.declared.read.Again.TheVariants.{Torn}
 use Rattle.stamped_read.specs.declared.read.Read.{Read}
 use Rattle.stamped_read.specs.declared.read.Read.TheVariants as read
-use Rattle.stamped_read.specs.Readers.{Reader, IsReader, part, words_of, window_of, room_of, with_room, emptied, longer_part, unfit, begins, reads, restarted, follows, follows_told, is_more, ends, ends_told}
+use Rattle.stamped_read.specs.Readers.{Reader, IsReader, part, words_of, window_of, emptied, longer_part, unfit, begins, reads, restarted, follows, follows_told, is_more, ends, ends_told}
 use Rattle.stamped_read.specs.Promises.{ReadsFor, TellsWhole}
 
 -- the room of every part stays where one part is changed and keeps its own

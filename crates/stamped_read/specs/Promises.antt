@@ -3,9 +3,10 @@ use Rattle.std.specs.Prelude.{◌≡◌, ℕ, ◌+◌, ◌/◌, ◌<◌, ◌≤�
 use Rattle.window_words.specs.Views.{after}
 use Rattle.window_words.specs.declared.views.View.{View}
 use Rattle.window_words.specs.declared.views.Call.{Call}
+use Rattle.window_words.specs.Rooms.{room_of}
 use Rattle.stamped_read.specs.declared.read.Read.{Read}
 use Rattle.stamped_read.specs.declared.read.Read.TheVariants as read
-use Rattle.stamped_read.specs.Readers.{Reader, part, words_of, window_of, room_of, next, read_told}
+use Rattle.stamped_read.specs.Readers.{Reader, part, words_of, window_of, next, read_told}
 
 -- The reader's windows are there and have its widths. Where it has begun a reading, the seat's
 -- reading is that one. The parts that it read in the present reading are those of the entry that it

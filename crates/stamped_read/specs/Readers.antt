@@ -3,22 +3,15 @@ use Rattle.std.specs.Prelude.{◌≡◌, ℕ, ◌+◌, ◌-◌, ◌/◌, ◌%◌
 use Rattle.wide_num.specs.RoomContents.{Contents}
 use Rattle.window_words.specs.declared.views.Call.{Call}
 use Rattle.window_words.specs.declared.views.Call.TheVariants as call
+use Rattle.window_words.specs.Rooms.{with_room, room_of}
 use Rattle.stamped_read.specs.declared.read.Again.{Again}
 use Rattle.stamped_read.specs.declared.read.Again.TheVariants.{Odd, Old, Torn, Mixed}
 use Rattle.stamped_read.specs.declared.read.Read.{Read}
 use Rattle.stamped_read.specs.declared.read.Read.TheVariants as read
 
--- no words, and room for so many
-abbrev pub with_room : ℕ → Contents ℕ
-with_room n = record { items = []; spare = n }
-
 -- the same for one window
 abbrev pub fresh_part : (ℕ → ℕ) → ℕ → Contents ℕ
 fresh_part wide w = with_room (wide w)
-
--- how many words there are and are left
-abbrev pub room_of : Contents ℕ → ℕ
-room_of c = length c.items + c.spare
 
 abbrev pub emptied : Contents ℕ → Contents ℕ
 emptied c = with_room (room_of c)

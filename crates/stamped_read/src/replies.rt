@@ -1,5 +1,6 @@
 ghost use Rattle.std.specs.Prelude.{◌≡◌, ℕ, ◌<◌, true, [], ◌∷◌, length, IsTrue, ◌↔◌};
-ghost use Rattle.stamped_read.specs.Readers.{fresh_reader, part, with_room, words_of, window_of};
+ghost use Rattle.window_words.specs.Rooms.{with_room};
+ghost use Rattle.stamped_read.specs.Readers.{fresh_reader, part, words_of, window_of};
 ghost use Rattle.stamped_read.specs.Readers.{due, unfit, begins, begins_told, reads, IsReader};
 ghost use Rattle.stamped_read.specs.Readers.{ends, ends_told};
 ghost use Rattle.stamped_read.specs.Promises.{ReadsFor, ReadsReplies, Makes, TellsWhole, IsSameGroup};

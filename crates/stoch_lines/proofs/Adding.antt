@@ -6,13 +6,13 @@ use Rattle.std.proofs.lemmas.List.Sums.{fold-append}
 use Rattle.smps_words.proofs.FoldLaw.{fold_is}
 use Rattle.smps_words.proofs.ToldLaws.{told_push}
 use Rattle.smps_words.specs.Outcomes.{seen_by, all_told}
-use Rattle.smps_words.specs.TextLines.{TextLine, field}
+use Rattle.smps_words.specs.TextLines.{TextLine, field, is_end}
 use Rattle.smps_words.specs.declared.core_file.Core.{Core}
 use Rattle.smps_words.specs.declared.periods.Periods.{Periods}
 use Rattle.stoch_lines.specs.declared.heading.Heading.{Heading}
 use Rattle.stoch_lines.specs.Sayings.{heading_of, opens_or_ends, with_name, with_source, new_periods, chosen_by, sayings, owned_entries, scenario_heads, scenario_names}
 use Rattle.stoch_lines.specs.Before.{before_of, next, section_of, begun_of, block_names_in, blocks_of, names_of, sources_of, realisations_of, scenarios_of}
-use Rattle.stoch_lines.specs.Faults.{is_end, line_fault}
+use Rattle.stoch_lines.specs.Faults.{line_fault}
 use Rattle.stoch_lines.specs.StochOutcome.{stepped, stoch_outcome}
 
 not_nothing : (lines : List TextLine) (line : TextLine) → (length (lines ++ line ∷ []) == 0) ≡ false

@@ -6,10 +6,10 @@ use Rattle.line_core.specs.declared.line_list.Line.{Line}
 use Rattle.line_core.specs.declared.line_list.LineFault.{LineFault}
 use Rattle.line_core.specs.declared.line_list.LineFault.TheVariants as line_faults
 use Rattle.smps_words.proofs.Asking.{lines_ask}
-use Rattle.smps_words.specs.Memory.{MayRefuse}
+use Rattle.smps_words.specs.Memory.{MayRefuse, AreSome}
 use Rattle.smps_words.specs.Outcomes.{judged}
 use Rattle.smps_words.specs.Outcomes.Outcome.{Faulty}
-use Rattle.smps_words.specs.TextLines.{text_line, text_lines}
+use Rattle.smps_words.specs.TextLines.{text_line, text_lines, is_end}
 use Rattle.smps_words.specs.declared.core_file.Core.{Core}
 use Rattle.smps_words.specs.declared.periods.Periods.{Periods}
 use Rattle.stoch_lines.specs.declared.kinds.StochKind.{StochKind}
@@ -17,9 +17,9 @@ use Rattle.stoch_lines.specs.declared.kinds.StochFault.{StochFault}
 use Rattle.stoch_lines.specs.declared.kinds.StochFault.TheVariants.{At, Memory}
 use Rattle.stoch_lines.specs.declared.state.State.{State}
 use Rattle.stoch_lines.specs.Before.{Before, next}
-use Rattle.stoch_lines.specs.Faults.{is_end, line_fault}
+use Rattle.stoch_lines.specs.Faults.{line_fault}
 use Rattle.stoch_lines.specs.Turns.{Refuses}
-use Rattle.stoch_lines.specs.StochOutcome.{answer_for, read_meaning, said_meaning, stepped, stepped_from, stepped_meaning, AreSome, Fails, Gives}
+use Rattle.stoch_lines.specs.StochOutcome.{answer_for, read_meaning, said_meaning, stepped, stepped_from, stepped_meaning, Fails, Gives}
 use Rattle.stoch_lines.proofs.Adding.{stepped_is}
 
 module _ (core : Core) (periods : Periods) where

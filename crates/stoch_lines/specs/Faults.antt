@@ -263,7 +263,3 @@ header_fault b line =
 abbrev pub line_fault : Core → Periods → Before → TextLine → Option StochKind
 line_fault core periods b line =
     if line.header then header_fault b line else data_fault core periods b.section b line
-
--- whether a line ends the file
-abbrev pub is_end : TextLine → Bool
-is_end line = is_header (codes "ENDATA") line

@@ -1,12 +1,12 @@
 -- What the lines of a stoch file come to beside a core and its periods: all that they say, or the
 -- first fault.
-use Rattle.std.specs.Prelude.{◌≡◌, ℕ, ◌<◌, List, [], length, Option, Result, Ok, Err}
+use Rattle.std.specs.Prelude.{◌≡◌, ℕ, List, [], Option, Result, Ok, Err}
 use Rattle.line_core.specs.SplitLines.{lines_of}
 use Rattle.line_core.specs.declared.line_list.Line.{Line}
 use Rattle.line_core.specs.declared.line_list.LineFault.{LineFault}
 use Rattle.line_core.specs.declared.line_list.LineFault.TheVariants as lines
 use Rattle.smps_words.specs.Outcomes.{Outcome, answer_of, folded, outcome, seen_by}
-use Rattle.smps_words.specs.TextLines.{TextLine, last_number, text_lines}
+use Rattle.smps_words.specs.TextLines.{TextLine, last_number, text_lines, is_end}
 use Rattle.smps_words.specs.declared.core_file.Core.{Core}
 use Rattle.smps_words.specs.declared.periods.Periods.{Periods}
 use Rattle.stoch_lines.specs.declared.kinds.StochKind.{StochKind}
@@ -15,7 +15,7 @@ use Rattle.stoch_lines.specs.declared.kinds.StochFault.{StochFault}
 use Rattle.stoch_lines.specs.declared.kinds.StochFault.TheVariants.{At, Memory}
 use Rattle.stoch_lines.specs.declared.state.State.{State}
 use Rattle.stoch_lines.specs.Before.{Before, before_of, next, nothing_said}
-use Rattle.stoch_lines.specs.Faults.{is_end, line_fault}
+use Rattle.stoch_lines.specs.Faults.{line_fault}
 use Rattle.stoch_lines.specs.Turns.{before_in}
 
 -- the fault of a line by the lines before it
@@ -59,10 +59,6 @@ Fails asked Memory meaning = asked
 abbrev pub Gives : Type 0 → Result State StochFault → Result Before (ℕ × StochKind) → Type 0
 Gives asked (Ok state) meaning = meaning ≡ Ok (before_in state)
 Gives asked (Err fault) meaning = Fails asked fault meaning
-
--- lines ask for memory where there are some
-abbrev pub AreSome : List Line → Type 0
-AreSome lines = 0 < length lines
 
 -- what lines come to, line by line from a state on
 abbrev pub stepped_from : Core → Periods → Before → List TextLine

@@ -6,7 +6,7 @@ use Rattle.smps_words.specs.NumberFields.{number_in}
 use Rattle.smps_words.specs.declared.core_file.Core.{Core}
 use Rattle.smps_words.specs.declared.file_line.FileLine.{FileLine}
 use Rattle.smps_words.specs.declared.periods.Periods.{Periods}
-use Rattle.smps_words.specs.TextLines.{TextLine, field, text_of}
+use Rattle.smps_words.specs.TextLines.{TextLine, field, text_of, is_end}
 use Rattle.stoch_lines.specs.declared.kinds.StochKind.{StochKind}
 use Rattle.stoch_lines.specs.declared.kinds.StochFault.{StochFault}
 use Rattle.stoch_lines.specs.declared.kinds.StochFault.TheVariants as faults
@@ -18,7 +18,7 @@ use Rattle.stoch_lines.specs.declared.state.ScenarioHead.{ScenarioHead}
 use Rattle.stoch_lines.specs.Places.{period_of}
 use Rattle.stoch_lines.specs.Sayings.{entry_at, last_field, named_period, scenario_head}
 use Rattle.stoch_lines.specs.Before.{added, next, Before}
-use Rattle.stoch_lines.specs.Faults.{line_fault, is_end, is_scenario, max_scenarios}
+use Rattle.stoch_lines.specs.Faults.{line_fault, is_scenario, max_scenarios}
 
 -- a state shows what the lines before say
 abbrev pub before_in : State → Before

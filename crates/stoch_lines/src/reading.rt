@@ -1,13 +1,12 @@
 ghost use Rattle.std.specs.Prelude.{◌≡◌, List};
-ghost use Rattle.smps_words.specs.Memory.{MayRefuse};
+ghost use Rattle.smps_words.specs.Memory.{MayRefuse, AreSome};
 ghost use Rattle.smps_words.specs.FirstPlaces.{Says};
-ghost use Rattle.smps_words.specs.TextLines.{TextLine, last_number, text_lines};
+ghost use Rattle.smps_words.specs.TextLines.{TextLine, last_number, text_lines, is_end};
 ghost use Rattle.smps_words.specs.declared.core_file.Core.{Core};
 ghost use Rattle.smps_words.specs.declared.periods.Periods.{Periods};
 ghost use Rattle.stoch_lines.specs.declared.kinds.StochFault.TheVariants.{At};
 ghost use Rattle.stoch_lines.specs.declared.kinds.StochKind.TheVariants.{NoEnd};
-ghost use Rattle.stoch_lines.specs.Faults.{is_end};
-ghost use Rattle.stoch_lines.specs.StochOutcome.{fault_after, said_meaning, stepped_meaning, stoch_outcome, AreSome, Gives};
+ghost use Rattle.stoch_lines.specs.StochOutcome.{fault_after, said_meaning, stepped_meaning, stoch_outcome, Gives};
 
 use crate::kinds::{StochFault, StochKind};
 use crate::state::State;

@@ -7,6 +7,7 @@ use Rattle.std.proofs.lemmas.List.Elements.{filter-append}
 use Rattle.std.proofs.lemmas.List.Folds.{list_any-append}
 use Rattle.std.proofs.lemmas.List.Sums.{position_or_len_is, prefix_len_stops, sum_by-cons}
 use Rattle.base_words.proofs.ListSumsByNumber.{range_more}
+use Rattle.base_words.proofs.Booleans.{or_false}
 
 pub range_push : (n : ℕ) → range_with_len 0 (suc n) ≡ range_with_len 0 n ++ n ∷ []
 range_push n = let e : 0 + n ≡ n = omega arith in range_more 0 n ∙ ap (λ m. range_with_len 0 n ++ m ∷ []) e
@@ -14,10 +15,6 @@ range_push n = let e : 0 + n ≡ n = omega arith in range_more 0 n ∙ ap (λ m.
 -- 1 where a test holds, else 0
 abbrev pub ones : Bool → ℕ
 ones t = cond t 1 0
-
-pub or_false : (b : Bool) → (b || false) ≡ b
-or_false true = refl
-or_false false = refl
 
 pub any_more : (p : ℕ → Bool) (n : ℕ) → list_any p (range_with_len 0 (suc n)) ≡ (list_any p (range_with_len 0 n) || p n)
 any_more p n = ap (list_any p) (range_push n) ∙ list_any-append p (range_with_len 0 n) (n ∷ []) ∙ ap (λ b. list_any p (range_with_len 0 n) || b) (or_false (p n))
@@ -64,10 +61,6 @@ place_push p (y ∷ xs) x =
     by_test false (Some k) u = refl
     by_test false None true = ap Some (omega arith)
     by_test false None false = refl
-
-pub option_or_none : {B : Type 0} (a : Option B) → option_or a None ≡ a
-option_or_none None = refl
-option_or_none (Some v) = refl
 
 any_is_counted : {X : Type 0} (p : X → Bool) (xs : List X) → list_any p xs ≡ nat_lt 0 (count_by p xs)
 any_is_counted p [] = refl

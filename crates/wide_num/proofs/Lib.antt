@@ -1,3 +1,3 @@
 mod QuotientLemmas
-mod LowestLemmas
+pub mod LowestLemmas
 mod UniqueLemmas

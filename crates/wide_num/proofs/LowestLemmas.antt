@@ -33,7 +33,7 @@ signed_times (pos a) m k false e t f = ap pos e
 signed_times (negsuc a) m k false e t f = absurd (omega (arith, ints, f refl))
 
 -- the magnitude of a number made of a sign and a magnitude
-magnitude_of : (s : Bool) (m : ℕ) → unsigned_abs (signed s m) ≡ m
+pub magnitude_of : (s : Bool) (m : ℕ) → unsigned_abs (signed s m) ≡ m
 magnitude_of true zero = refl
 magnitude_of true (suc m) = refl
 magnitude_of false m = refl

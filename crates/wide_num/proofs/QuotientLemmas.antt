@@ -1,23 +1,20 @@
 -- quotients rounded down and up, from those with a remainder
-use Rattle.std.proofs.Common.{◌≡◌, refl, ap, ◌∙◌, arith, ℕ, zero, suc, ◌+◌, ◌*◌, ◌/◌, ◌<◌, ◌≤◌, ℤ, pos, negsuc, ◌+ℤ◌, ◌*ℤ◌, ◌<ℤ◌}
+use Rattle.std.proofs.Common.{◌≡◌, refl, ap, ◌∙◌, arith, ℕ, zero, suc, ◌+◌, ◌*◌, ◌<◌, ℤ, pos, negsuc, ◌+ℤ◌, ◌*ℤ◌, ◌<ℤ◌}
 use Rattle.std.proofs.lemmas.Int.{ints}
 use Rattle.std.specs.Int.{int_div_euclid, int_rem_euclid}
 use Rattle.std.proofs.Math.IntN.{suc_ℤ, suc_ℤ-*ℤ}
+use Rattle.base_words.proofs.Quotients.{quotient}
 use Rattle.wide_num.specs.Quotients.{IsFloor, IsCeiling}
-
--- the quotient of naturals is rounded down
-rounds_down : (a b : ℕ) → 0 < b → ((a / b) * b ≤ a) × (a < (a / b) * b + b)
-rounds_down a b h = (grind arith, grind arith)
 
 -- std's quotient with a remainder from 0 on is the one rounded down
 pub floor_from_euclid : (a b q : ℤ) → pos 0 <ℤ b → q ≡ int_div_euclid a b → IsFloor a b q
 floor_from_euclid (pos a) (pos b) q h e =
     let above : 0 < b = omega (arith, ints) in
-    let bounds = rounds_down a b above in
+    let bounds = quotient a b above in
     rw e (omega (arith, ints), omega (arith, ints))
 floor_from_euclid (negsuc a) (pos b) q h e =
     let above : 0 < b = omega (arith, ints) in
-    let bounds = rounds_down a b above in
+    let bounds = quotient a b above in
     rw e (omega (arith, ints), omega (arith, ints))
 floor_from_euclid (pos a) (negsuc b) q h e = absurd (omega (arith, ints))
 floor_from_euclid (negsuc a) (negsuc b) q h e = absurd (omega (arith, ints))
@@ -26,11 +23,11 @@ floor_from_euclid (negsuc a) (negsuc b) q h e = absurd (omega (arith, ints))
 quotient_and_rest : (a b : ℤ) → pos 0 <ℤ b → ((int_div_euclid a b *ℤ b) +ℤ int_rem_euclid a b) ≡ a
 quotient_and_rest (pos a) (pos b) h =
     let above : 0 < b = omega (arith, ints) in
-    let bounds = rounds_down a b above in
+    let bounds = quotient a b above in
     omega (arith, ints)
 quotient_and_rest (negsuc a) (pos b) h =
     let above : 0 < b = omega (arith, ints) in
-    let bounds = rounds_down a b above in
+    let bounds = quotient a b above in
     omega (arith, ints)
 quotient_and_rest (pos a) (negsuc b) h = absurd (omega (arith, ints))
 quotient_and_rest (negsuc a) (negsuc b) h = absurd (omega (arith, ints))

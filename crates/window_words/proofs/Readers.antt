@@ -23,7 +23,7 @@ use Rattle.window_words.proofs.Stamps.{whole_tells}
 use Rattle.window_words.proofs.Listed.{push_at, push_before, length_push, each_accept, has_last}
 use Rattle.window_words.proofs.Keeping.{after_load}
 
-abbrev some_or : {A : Type 0} → A → Option A → A
+abbrev pub some_or : {A : Type 0} → A → Option A → A
 some_or d None = d
 some_or d (Some x) = x
 

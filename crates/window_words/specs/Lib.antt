@@ -1,4 +1,5 @@
 pub mod Conditions
+pub mod Rooms
 pub mod Rule
 pub mod Steps
 pub mod Views

@@ -13,7 +13,7 @@ wrapped : (line square x y : ℤ) → FitsSigned w128 line → FitsSigned w128 s
 wrapped line square x y fl fs fx fxx fp fq e = rw e (simp to_z-of_z)
 
 same : (line square x y : ℤ) → FitsSigned w128 line → FitsSigned w128 square → FitsSigned w64 x → y ≡ to_z w64 (of_z w64 x) →
-    unsigned_abs line * unsigned_abs x + unsigned_abs square * (unsigned_abs x * unsigned_abs x) ≤ 2 ^ 122 →
+    unsigned_abs line * unsigned_abs x + unsigned_abs square * (unsigned_abs x * unsigned_abs x) ≤ 2 ^ 125 →
     (to_z w128 (of_z w128 (to_z w128 (of_z w128 line) *ℤ to_z w128 (of_z w128 y))) +ℤ to_z w128 (of_z w128 (to_z w128 (of_z w128 square) *ℤ to_z w128 (of_z w128 (to_z w128 (of_z w128 y) *ℤ to_z w128 (of_z w128 y))))))
     ≡ curve line square x
 same line square x y fl fs fx e h =

@@ -1,7 +1,7 @@
 use Rattle.std.proofs.Common.{◌∙◌, arith}
 use Rattle.smps_words.specs.TextLines.{text_line, text_lines}
+use Rattle.smps_words.specs.Memory.{AreSome}
 use Rattle.core_lines.proofs.Readings.{endless, one_on, refused, some_before}
-use Rattle.core_lines.specs.Meaning.{AreSome}
 use Rattle.core_lines.specs.States.{before_in}
 use Rattle.core_lines.proofs.reading.read_by_steps.Goals as goal
 

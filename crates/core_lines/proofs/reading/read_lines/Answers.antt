@@ -1,7 +1,8 @@
 use Rattle.std.proofs.Common.{subst}
 use Rattle.std.specs.Prelude.{Result, ℕ}
 use Rattle.smps_words.specs.TextLines.{text_lines}
-use Rattle.core_lines.specs.Meaning.{Gives, AreSome}
+use Rattle.smps_words.specs.Memory.{AreSome}
+use Rattle.core_lines.specs.Meaning.{Gives}
 use Rattle.core_lines.specs.Parts.{Before}
 use Rattle.core_lines.specs.declared.kinds.CoreKind.{CoreKind}
 use Rattle.core_lines.proofs.Readings.{steps_are}

@@ -8,8 +8,8 @@ use Rattle.base_words.proofs.Magnitudes.{abs_between}
 use Rattle.boxed_problem.proofs.Magnitudes.{curve_size}
 use Rattle.safe_bound.proofs.least_values.column_least.Goals as goal
 
-pub curve_at-requires : goal.curve_at-requires
-curve_at-requires c =
+pub column_value-requires : goal.column_value-requires
+column_value-requires c =
     let a = c.ranges.line in
     let b = c.ranges.square in
     let fp : FitsSigned w64 c.least_place.result = search rules in
@@ -23,8 +23,8 @@ returns c =
     let a = c.ranges.line in
     let b = c.ranges.square in
     let fp : FitsSigned w64 c.least_place.result = search rules in
-    let fv : FitsSigned w128 c.curve_at.result = search rules in
+    let fv : FitsSigned w128 c.column_value.result = search rules in
     let raw : IsLeastAt (to_z w128 (of_z w128 c.args.line)) (to_z w128 (of_z w128 c.args.square)) c.args.side c.least_place.result = c.least_place.ensures in
     let i = simp to_z-of_z at raw in
-    let v = simp to_z-of_z at c.curve_at.ensures in
+    let v = simp to_z-of_z at c.column_value.ensures in
     simp to_z-of_z (v ∙ least_at c.args.line c.args.square c.args.side c.least_place.result i)

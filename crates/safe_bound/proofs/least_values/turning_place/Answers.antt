@@ -2,7 +2,7 @@ use Rattle.std.proofs.Common.{sym, ◌∙◌, subst, FitsSigned, rules}
 use Rattle.std.proofs.lemmas.Int.{to_z-of_z}
 use Rattle.std.specs.Int.{w128}
 use Rattle.safe_bound.specs.Leasts.{IsVertex}
-use Rattle.safe_bound.proofs.WideFits.{double_fits, less_fits}
+use Rattle.base_words.proofs.Magnitudes.{double_fits, less_fits}
 use Rattle.safe_bound.proofs.Vertex.{vertex_of}
 use Rattle.safe_bound.proofs.least_values.turning_place.Goals as goal
 

@@ -1,7 +1,8 @@
 use Rattle.std.proofs.Common.{sym, subst, ap, ◌∙◌, ◌≡◌, List, []}
 use Rattle.std.proofs.lemmas.Result.{IfOk-weaker}
 use Rattle.boxed_problem.specs.declared.parts.Entry.{Entry}
-use Rattle.sp_model.specs.Changes.{AreAscending, cells_of, put_entries}
+use Rattle.boxed_problem.specs.BoxedFacts.{AreAscending}
+use Rattle.sp_model.specs.Changes.{cells_of, put_entries}
 use Rattle.sp_model.proofs.MergeSteps.{ordered_puts, puts_ascend}
 use Rattle.sp_model.proofs.drafting.changed_entries.Goals as goal
 

@@ -2,7 +2,8 @@ use Rattle.std.proofs.Common.{arith, sym, subst, ap, ◌∙◌, ◌/◌, List, [
 use Rattle.std.proofs.lemmas.List.{take-append-drop, take_rest}
 use Rattle.std.proofs.lemmas.Result.{IfOk-weaker}
 use Rattle.boxed_problem.specs.declared.parts.Entry.{Entry}
-use Rattle.sp_model.specs.Changes.{AreAscending, put_entries}
+use Rattle.boxed_problem.specs.BoxedFacts.{AreAscending}
+use Rattle.sp_model.specs.Changes.{put_entries}
 use Rattle.sp_model.proofs.MergeSteps.{halves, puts_ascend, short_is}
 use Rattle.sp_model.proofs.merging.+ordered.Goals as goal
 

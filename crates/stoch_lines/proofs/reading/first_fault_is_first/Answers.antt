@@ -1,5 +1,5 @@
 use Rattle.smps_words.proofs.PlaceLaw.{says}
-use Rattle.stoch_lines.specs.Faults.{is_end}
+use Rattle.smps_words.specs.TextLines.{is_end}
 use Rattle.stoch_lines.specs.StochOutcome.{fault_after}
 use Rattle.stoch_lines.proofs.reading.first_fault_is_first.Goals as goal
 
