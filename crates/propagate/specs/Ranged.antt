@@ -50,8 +50,7 @@ pub record AreRanges (n : ℕ) (entries : List Entry) (sides : List Side)
   pub all : (i : ℕ) → i < n → IsRange entries sides i (range_at ranges i)
 
 -- what a trail keeps: its sides, and those that its changes give back, lie in the columns'; its
--- ranges are those of the sides;
--- and its marks rise, up to the number of changes
+-- ranges are those of the sides; and its marks rise, up to the number of changes
 pub record IsTrail (columns : List Side) (n : ℕ) (entries : List Entry) (sides : List Side)
     (changes : List Change) (marks : List ℕ) (ranges : List Range) : Type 0 where
   pub long : length sides ≡ length columns

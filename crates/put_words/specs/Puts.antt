@@ -41,9 +41,8 @@ made_from run k multipliers points = record {
 }
 
 -- put k. The first one is made from the best points of all scenarios and multipliers of 0, each
--- later one from the best
--- points of the hedged problems of the put before and its multipliers; none where a scenario has no
--- feasible point
+-- later one from the best points of the hedged problems of the put before and its multipliers; none
+-- where a scenario has no feasible point
 unfoldable pub put_of : Run → ℕ → Option Made
 put_of run zero = None
 put_of run (suc zero) =

@@ -20,10 +20,8 @@ abbrev pub IsCalm : ℕ → ℕ → Type 0
 IsCalm before after = Rises before after → ⊥
 
 -- how a command ends by its run alone: it is done, and where it is `wait`, each scenario has a
--- feasible point then;
--- or it is `wait`, and this scenario is the first one without a feasible point, or used up its
--- budget before one was met;
--- want of memory is free
+-- feasible point then; or it is `wait`, and this scenario is the first one without a feasible
+-- point, or used up its budget before one was met; want of memory is free
 abbrev pub EndsBy : Action → Run → Status → Type 0
 EndsBy action run status.Done = action ≡ Wait → AllHavePoints run
 EndsBy action run (status.Infeasible scenario) = (action ≡ Wait) × IsFirstInfeasible run scenario

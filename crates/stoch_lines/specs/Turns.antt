@@ -36,8 +36,7 @@ before_in state = record {
 }
 
 -- an error tells this fault at this line, and then this stays the same; memory is wanting only for
--- a
--- line without a fault
+-- a line without a fault
 abbrev pub Refuses : StochFault → Option StochKind → TextLine → Type 0 → Type 0
 Refuses faults.Memory fault line same = fault ≡ None
 Refuses (faults.At number kind) fault line same =
@@ -50,8 +49,7 @@ Turns fault line (Ok x) same after = (fault ≡ None) × after
 Turns fault line (Err e) same after = Refuses e fault line same
 
 -- a line of data tells its fault by the lines before, and then the state shows what it showed;
--- where
--- there is none it shows what the line adds
+-- where there is none it shows what the line adds
 abbrev pub Adds : Core → Periods → (Before → TextLine → Option StochKind) → State → FileLine
     → Result (Unit {0}) StochFault → State → Type 0
 Adds core periods fault old line result new =
