@@ -11,11 +11,12 @@
 # stages. The table has, of the best of three runs, the seconds for loading and
 # for reading, the MB read a second, how much slower that is a MB than at 1 MB
 # (1.00 is linear growth), the most memory that the program held for each byte
-# of the file, and the seconds for the marks and for the tree with the numbers
-# of scenarios and nodes. All seconds are seconds of a processor, so that other
-# programs disturb them less.
+# of the file, the seconds that awk takes, in the same run, to keep each word of the
+# same file in a table, with the seconds for reading as a multiple of them, and the
+# seconds for the marks and for the tree with the numbers of scenarios and nodes. All
+# seconds are seconds of a processor, so that other programs disturb them less.
 #
-# Needs: rt, python3; some 50 MB of disk and 2 GB of memory.
+# Needs: rt, python3, awk; some 50 MB of disk and 2 GB of memory.
 # Takes: a minute, and some minutes before it where the crates are not proved yet.
 # Use: bench/stoch.sh
 
@@ -180,15 +181,19 @@ def blocks(size):
 def run(command):
     measured = subprocess.run([sys.executable, work / "measure.py", *command], capture_output=True, text=True, check=True)
     head, _, text = measured.stdout.partition("\n")
-    status, _, peak = head.split()
+    status, seconds, peak = head.split()
     if status != "0":
         sys.exit(f"{command[0]} ended with {status}: {text[-500:]}")
-    return text.split("\n"), int(peak)
+    return text.split("\n"), int(peak), float(seconds)
+
+
+# Keeps each word of a file in a table and prints how many different ones there are.
+AWK = "{ for (i = 1; i <= NF; i++) seen[$i]++ } END { for (word in seen) count++; print count }"
 
 
 (work / "core").write_bytes(core_file())
 (work / "time").write_bytes(time_file())
-print(f"{'file':>9} {'MB':>6} {'load s':>7} {'read s':>7} {'MB/s':>6} {'growth':>7} {'peak B/B':>9}  marks s, tree s, scenarios, nodes")
+print(f"{'file':>9} {'MB':>6} {'load s':>7} {'read s':>7} {'MB/s':>6} {'growth':>7} {'peak B/B':>9} {'awk s':>6} {'to awk':>6}  marks s, tree s, scenarios, nodes")
 for kind, make in (("scenarios", scenarios), ("indep", indep), ("blocks", blocks), ("tree", halves)):
     first = None
     for size in (1, 15) if kind != "tree" else (1,):
@@ -197,13 +202,14 @@ for kind, make in (("scenarios", scenarios), ("indep", indep), ("blocks", blocks
         path.write_bytes(text)
         best = None
         for _ in range(3):
-            lines, peak = run([driver, str(work / "core"), str(work / "time"), str(path)])
+            lines, peak, _ = run([driver, str(work / "core"), str(work / "time"), str(path)])
             loading, reading = (int(one) / 1e6 for one in lines[0].split())
             if best is None or reading < best[1]:
                 best = loading, reading, peak, lines[1].split()
         loading, reading, peak, tree = best
+        awk = min(run(["awk", AWK, str(path)])[2] for _ in range(3))
         megabytes = len(text) / MB
         first = first or reading / megabytes
         tree = "-" if len(tree) != 4 else " ".join(f"{int(one) / 1e6:.3f}" for one in tree[:2]) + " " + " ".join(tree[2:])
-        print(f"{kind:>9} {megabytes:>6.1f} {loading:>7.3f} {reading:>7.3f} {megabytes / reading:>6.1f} {reading / megabytes / first:>7.2f} {peak / len(text):>9.1f}  {tree}", flush=True)
+        print(f"{kind:>9} {megabytes:>6.1f} {loading:>7.3f} {reading:>7.3f} {megabytes / reading:>6.1f} {reading / megabytes / first:>7.2f} {peak / len(text):>9.1f} {awk:>6.3f} {reading / awk:>6.2f}  {tree}", flush=True)
 PY

@@ -18,7 +18,7 @@ use Rattle.window_words.specs.declared.views.Known.{Known}
 use Rattle.window_words.specs.declared.views.Owned.{Owned}
 use Rattle.window_words.specs.declared.views.Pending.{Pending}
 use Rattle.window_words.proofs.Listed.{length_push, push_at, push_before}
-use Rattle.window_words.proofs.Readers.{some_or}
+use Rattle.window_words.proofs.Readers.{same_some}
 use Rattle.window_words.specs.Rooms.{with_room, room_of}
 use Rattle.plain_board.specs.declared.seat.PlainSeat.{PlainSeat}
 use Rattle.plain_board.specs.Tracks.{items_of}
@@ -39,9 +39,6 @@ empties : (P : ℕ → Type 0) (n i : ℕ) → All P (get_or (replicate n []) i 
 empties P zero i = All-nil P
 empties P (suc n) zero = All-nil P
 empties P (suc n) (suc i) = empties P n i
-
-same_of : {A : Type 0} (x y : A) → Some x ≡ Some y → x ≡ y
-same_of x y e = ap (some_or x) e
 
 -- what stands in the list of known views
 known_at : {M : Type 0} (of : M) (f : ℕ → View) (a n j : ℕ) (v : Known M) → get_elem? (map (known of) (map f (range_with_len a n))) j ≡ some v → (j < n) × (known of (f (a + j)) ≡ v)
@@ -89,7 +86,7 @@ module _ {M : Type 0} (entry : ℕ → ℕ → List ℕ) (wide : ℕ → ℕ) (c
     new = λ w l b. absurd (omega arith);
     top = λ w b. let z = same_all nought (start wide count) (start wide w) in omega arith;
     whole = λ w k b pos e i l. let z = same_all nought (start wide count) (start wide w) in absurd (omega arith);
-    same = λ j v m at is. same_of m of (sym is ∙ sym (each_knows j v at).0);
+    same = λ j v m at is. same_some m of (sym is ∙ sym (each_knows j v at).0);
     each = λ j v at. (each_knows j v at).1;
     following = λ w u past b l. let at_w = same_all nought (start wide count) (start wide w) in let at_u = same_all nought (start wide count) (start wide u) in omega arith;
     listed = λ i j v u at_v at_u k d l. let a : Owned = get_or u.view.owned k d in
