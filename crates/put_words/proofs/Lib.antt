@@ -8,7 +8,6 @@ mod Moves
 pub mod Points
 pub mod Pulls
 pub mod Rises
-pub mod Signed
 pub mod Spans
 pub mod Unpriced
 pub mod Weights

@@ -1,2 +1,0 @@
--- Magnitudes of differences and opposites.
-
