@@ -1,3 +1,4 @@
+# shellcheck shell=bash disable=SC2034
 # What the benchmarks share; they source it, and it is not run by itself.
 #
 # It finds the repository from its own path, makes a temporary folder that is
