@@ -19,10 +19,10 @@ use Rattle.sp_model.specs.declared.run.Run.{Run}
 use Rattle.run_calls.proofs.MostBounds.{box_small, early_column, most_small, part_small, rho_abs}
 use Rattle.sp_model.proofs.Bounds.{total_abs}
 use Rattle.put_words.specs.Hedged.{pull}
-use Rattle.put_words.specs.NextMultipliers.{front_of, move_in, rise}
+use Rattle.put_words.specs.NextMultipliers.{front_of, rise}
 use Rattle.put_words.specs.NodeSums.{AreInside, sum_of, value_at, weight_at, weight_of}
 use Rattle.put_words.proofs.Pulls.{pull_abs, pull_numerator_abs, raw_room, size_le, twice_abs}
-use Rattle.put_words.proofs.Rises.{move_abs, numerator_abs, rises_abs, weight_above, weight_most, regroup_step}
+use Rattle.put_words.proofs.Rises.{numerator_abs, rises_abs, weight_above, weight_most, regroup_step}
 use Rattle.sp_model.proofs.LeastSums.{weight_size}
 use Rattle.put_words.proofs.Weights.{node_sum_abs, part_abs, value_abs, weight_sum}
 
@@ -119,7 +119,7 @@ numerator_fits run x n s j inside l below h =
     let ns = scenarios_at run.program.tree.nodes n in
     fits_from_abs ((run.options.rho *ℤ weight_at run s) *ℤ ((weight_of run ns *ℤ value_at run x s j) -ℤ sum_of run x ns j)) (omega (arith, numerator_abs run x ns j s inside (node_members run n l).there below h, raw_small run n s j l below h))
 
-pub rises_small : (run : Run) (x : List ℤ) (n j k : ℕ) → AreInside run x → n < length run.program.tree.nodes → j < run.nonleaf → unsigned_abs (sum_z (rise run x (scenarios_at run.program.tree.nodes n) j) (take k (scenarios_at run.program.tree.nodes n))) ≤ 2 ^ 121
+rises_small : (run : Run) (x : List ℤ) (n j k : ℕ) → AreInside run x → n < length run.program.tree.nodes → j < run.nonleaf → unsigned_abs (sum_z (rise run x (scenarios_at run.program.tree.nodes n) j) (take k (scenarios_at run.program.tree.nodes n))) ≤ 2 ^ 121
 rises_small run x n j k inside l h =
     let ns = scenarios_at run.program.tree.nodes n in
     let members = node_members run n l in
@@ -135,12 +135,6 @@ opposite_fits run x n j inside l h =
     let ns = scenarios_at run.program.tree.nodes n in
     let front = sum_z (rise run x ns j) (front_of ns) in
     fits_from_abs (neg_ℤ front) (omega (arith, abs_opposite front, rises_small run x n j (length ns - 1) inside l h))
-
-pub moved_fits : (run : Run) (multipliers : Multipliers) (x : List ℤ) (n s j : ℕ) → AreSized run multipliers → AreInside run x → n < length run.program.tree.nodes → s < scenarios run → j < run.nonleaf →
-    FitsSigned w128 (multiplier_of run multipliers s j +ℤ move_in run x (scenarios_at run.program.tree.nodes n) j s)
-moved_fits run multipliers x n s j sized inside l below h =
-    let move = move_in run x (scenarios_at run.program.tree.nodes n) j s in
-    fits_from_abs (multiplier_of run multipliers s j +ℤ move) (omega (arith, abs-add (multiplier_of run multipliers s j) move, sized s j below h, most_small run j h, move_abs run x n j s inside l below h, part_small run j (early_column run j h)))
 
 pub pull_fits : (run : Run) (x : List ℤ) (n s j : ℕ) → AreInside run x → n < length run.program.tree.nodes → s < scenarios run → j < run.nonleaf → FitsSigned w128 ((pos 2 *ℤ (run.options.rho *ℤ weight_at run s)) *ℤ sum_of run x (scenarios_at run.program.tree.nodes n) j)
 pull_fits run x n s j inside l below h =

@@ -1,6 +1,6 @@
+mod Cells
+mod Filling
 mod Fitting
-mod Growing
 mod Makings
-mod Reading
+mod Places
 mod Solvable
-mod Stages

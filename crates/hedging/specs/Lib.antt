@@ -1,7 +1,6 @@
-pub mod Bundles
 pub mod Hedges
 pub mod Solves
-pub mod Totals
+pub mod Tables
 pub use Rattle.base_words.specs.ListSums
 pub use Rattle.base_words.specs.Sums
 pub use Rattle.boxed_problem.specs.Data

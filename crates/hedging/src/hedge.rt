@@ -1,13 +1,16 @@
 ghost use Rattle.std.specs.Prelude.{◌≡◌, ◌+◌, ◌≤◌, Some, OnErr, OnOk, IfErr, IfOk};
 ghost use Rattle.hedging.specs.Hedges.{FirstFails, IsFirst, NextFails, made_of};
-ghost use Rattle.put_words.specs.Puts.{put_of};
+ghost use Rattle.put_words.specs.Hedged.{hedged_in};
+ghost use Rattle.put_words.specs.Puts.{bests_below, early_values, put_of};
+ghost use Rattle.sp_model.specs.Problems.{scenarios};
 
-use crate::making::{MadePut, make_put};
-use crate::moving::no_multipliers;
+use crate::making::{advance, early_values};
 use crate::solving::{Solved, first_points, next_points};
+use crate::tables::no_multipliers;
 use run_calls::Put;
-use sp_model::{Plan, Run};
+use sp_model::{Multipliers, Plan, Run};
 use std::alloc::Global;
+use wide_num::List;
 
 /// A put with the points that it was made from, and the wait-and-see bound.
 #[derive(Drop)]
@@ -50,39 +53,62 @@ pub fn first(alloc: Global, run: &Run) -> Result<Hedge, FirstFault>
         Ok(solved) => solved,
         Err(fault) => return Err(fault),
     };
-    let Ok(nothing) = no_multipliers(alloc, run) else {
+    let Ok(x) = early_values(alloc, run, &points) else {
         return Err(FirstFault::Memory);
     };
-    let Ok(MadePut { put, plan }) = make_put(alloc, run, 1, &nothing, points) else {
+    let Ok(multipliers) = no_multipliers(alloc, run) else {
         return Err(FirstFault::Memory);
     };
-    Ok(Hedge { put, plan, bound })
+    let mut hedge = unmoved(alloc, multipliers, bound);
+    advance(run, &mut hedge, x, points);
+    Ok(hedge)
 }
 
-// The put after the one of a hedge.
-fn following(alloc: Global, run: &Run, hedge: &Hedge) -> Result<MadePut, NextFault>
+// What the first put is made of: multipliers that nothing has moved yet.
+fn unmoved(alloc: Global, multipliers: Multipliers, bound: i128) -> Hedge
+    ensures number { result.put.number ≡ 0 }
+    ensures multipliers { result.put.multipliers ≡ multipliers }
+    ensures bound { result.bound ≡ bound }
+{
+    let x = List::new(alloc);
+    let points = List::new(alloc);
+    Hedge {
+        put: Put {
+            number: 0,
+            multipliers,
+            x,
+        },
+        plan: Plan { points },
+        bound,
+    }
+}
+
+// Points with their values in the nonleaf columns.
+#[derive(Drop)]
+struct Found {
+    points: List<List<i64>>,
+    x: List<i64>,
+}
+
+// The points that the put after the one of a hedge is made from.
+fn following(alloc: Global, run: &Run, hedge: &Hedge) -> Result<Found, NextFault>
     requires put { put_of run.now hedge.now.put.number ≡ Some (made_of hedge.now) }
     requires more { hedge.now.put.number ≤ run.now.options.iterations }
-    ensures ok { IfOk result
-        (λ made. put_of run.now (hedge.now.put.number + 1)
-        ≡ Some (record { put = made.put; plan = made.plan })) }
-    ensures number { IfOk result (λ made. made.put.number ≡ hedge.now.put.number + 1) }
+    ensures points { IfOk result
+        (λ found. bests_below (scenarios run.now)
+        (hedged_in run.now hedge.now.put.multipliers hedge.now.put.x)
+        ≡ Some found.points) }
+    ensures values { IfOk result (λ found. found.x ≡ early_values run.now found.points) }
     ensures err { IfErr result (NextFails run.now hedge.now.put) }
 {
     let points = match next_points(alloc, run, &hedge.put) {
         Ok(points) => points,
         Err(fault) => return Err(fault),
     };
-    let Ok(made) = make_put(
-        alloc,
-        run,
-        hedge.put.number + 1,
-        &hedge.put.multipliers,
-        points,
-    ) else {
+    let Ok(x) = early_values(alloc, run, &points) else {
         return Err(NextFault::Memory);
     };
-    Ok(made)
+    Ok(Found { points, x })
 }
 
 /// Makes the next put: its points are the best ones of the hedged problems of
@@ -99,9 +125,8 @@ pub fn next(alloc: Global, run: &Run, hedge: &mut Hedge) -> Result<(), NextFault
     ensures unchanged { OnErr result (hedge.new ≡ hedge.old) }
 {
     match following(alloc, run, hedge) {
-        Ok(MadePut { put, plan }) => {
-            hedge.put = put;
-            hedge.plan = plan;
+        Ok(Found { points, x }) => {
+            advance(run, hedge, x, points);
             Ok(())
         }
         Err(fault) => Err(fault),

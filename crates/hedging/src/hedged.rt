@@ -1,92 +1,71 @@
-ghost use Rattle.std.specs.Prelude.{◌≡◌, ◌+◌, ◌*◌, ◌<◌, ◌≤◌, ◌^◌, ℤ, ◌+ℤ◌, ◌-ℤ◌, ◌*ℤ◌, pos, length, map, unsigned_abs, IfOk};
+ghost use Rattle.std.specs.Prelude.{◌≡◌, ◌<◌, ◌≤◌, ◌^◌, ◌+ℤ◌, ◌-ℤ◌, ◌*ℤ◌, pos, length, map, unsigned_abs, IfOk};
 ghost use Rattle.std.specs.List.{range_with_len};
 ghost use Rattle.base_words.specs.Sums.{number_at};
 ghost use Rattle.boxed_problem.specs.Data.{problem_of};
-ghost use Rattle.hedging.specs.Bundles.{nodes_for};
-ghost use Rattle.hedging.specs.Totals.{AreTotals, IsInner, IsReady};
+ghost use Rattle.hedging.specs.Tables.{ArePulls, IsReady};
 ghost use Rattle.put_words.specs.Hedged.{hedged_in, hedged_line, hedged_square, pull};
-ghost use Rattle.put_words.specs.NodeSums.{AreInside, node_for};
 ghost use Rattle.sp_model.specs.Plans.{multiplier_of};
 ghost use Rattle.sp_model.specs.Problems.{problem_in, scenarios};
 
-use crate::bundles::{node_for, nodes_for};
-use crate::moving::rate;
-use crate::totals::Totals;
+use crate::moving::{rate, twice};
 use boxed_problem::Boxed;
-use put_words::{minus, plus, times, with_objective};
-use run_calls::multiplier;
-use sp_model::{Multipliers, Run};
+use put_words::{minus, plus, with_objective};
+use run_calls::{Put, multiplier};
+use sp_model::Run;
 use std::alloc::{AllocError, Global};
 use wide_num::List;
 
-// Twice a number of small magnitude.
-fn twice(a: i128) -> i128
-    requires { unsigned_abs a ≤ 2 ^ 123 }
-    ensures { result ≡ pos 2 *ℤ a }
-{
-    2 * a
-}
-
-// Twice penalty times weight times the mean of a scenario's node, rounded down.
-fn pull(run: &Run, x: &List<i64>, totals: &Totals, node: u32, scenario: u32, column: u32) -> i128
-    requires inside { AreInside run.now x.now }
-    requires totals { AreTotals run.now x.now totals.now }
-    requires node { IsInner run.now node }
-    requires is { node ≡ node_for run.now scenario column }
+// The pull of a scenario in a nonleaf column.
+fn pull_at(run: &Run, put: &Put, pulls: &List<i128>, scenario: u32, column: u32) -> i128
+    requires pulls { ArePulls run.now put.now.x pulls.now }
     requires scenario { scenario < scenarios run.now }
     requires column { column < run.now.nonleaf }
-    ensures { result ≡ pull run.now x.now scenario column }
+    ensures { result ≡ pull run.now put.now.x scenario column }
 {
-    let product = times(twice(rate(run, scenario)), totals.sum(run, x, node, column));
-    totals.share(run, x, node, product)
+    let _put = put;
+    pulls.as_slice()[scenario as usize * run.nonleaf as usize + column as usize]
 }
 
 // The linear part of a nonleaf column: twice its cost and its multiplier, less
 // the pull.
 fn early_cost(
     run: &Run,
-    multipliers: &Multipliers,
-    x: &List<i64>,
-    totals: &Totals,
-    nodes: &[u32],
+    put: &Put,
+    pulls: &List<i128>,
     scenario: u32,
     column: u32,
     cost: i128,
 ) -> i128
-    requires ready { IsReady run.now multipliers.now x.now totals.now }
-    requires nodes { nodes.now ≡ nodes_for run.now scenario }
+    requires ready { IsReady run.now put.now.multipliers put.now.x pulls.now }
     requires scenario { scenario < scenarios run.now }
     requires column { column < run.now.nonleaf }
     requires small { unsigned_abs cost ≤ 2 ^ 122 }
     ensures { result
-        ≡ (pos 2 *ℤ (cost +ℤ multiplier_of run.now multipliers.now scenario column)) -ℤ pull run.now
-        x.now scenario column }
+        ≡
+        (pos 2 *ℤ (cost +ℤ multiplier_of run.now put.now.multipliers scenario column)) -ℤ pull
+        run.now put.now.x scenario column }
 {
-    let node = node_for(run, nodes, scenario, column);
-    let priced = plus(cost, multiplier(run, multipliers, scenario, column));
-    minus(twice(priced), pull(run, x, totals, node, scenario, column))
+    let priced = plus(cost, multiplier(run, &put.multipliers, scenario, column));
+    minus(twice(priced), pull_at(run, put, pulls, scenario, column))
 }
 
 // The linear part of a column.
 fn hedged_cost(
     run: &Run,
-    multipliers: &Multipliers,
-    x: &List<i64>,
-    totals: &Totals,
-    nodes: &[u32],
+    put: &Put,
+    pulls: &List<i128>,
     scenario: u32,
     column: u32,
     cost: i128,
 ) -> i128
-    requires ready { IsReady run.now multipliers.now x.now totals.now }
-    requires nodes { nodes.now ≡ nodes_for run.now scenario }
+    requires ready { IsReady run.now put.now.multipliers put.now.x pulls.now }
     requires scenario { scenario < scenarios run.now }
     requires cost { cost ≡ number_at (problem_in run.now scenario).line column }
     requires small { unsigned_abs cost ≤ 2 ^ 122 }
-    ensures { result ≡ hedged_line run.now multipliers.now x.now scenario column }
+    ensures { result ≡ hedged_line run.now put.now.multipliers put.now.x scenario column }
 {
     if column < run.nonleaf {
-        early_cost(run, multipliers, x, totals, nodes, scenario, column, cost)
+        early_cost(run, put, pulls, scenario, column, cost)
     } else {
         twice(cost)
     }
@@ -96,34 +75,23 @@ fn hedged_cost(
 fn hedged_costs(
     alloc: Global,
     run: &Run,
-    multipliers: &Multipliers,
-    x: &List<i64>,
-    totals: &Totals,
+    put: &Put,
+    pulls: &List<i128>,
     scenario: u32,
     costs: &[i128],
 ) -> Result<List<i128>, AllocError>
-    requires ready { IsReady run.now multipliers.now x.now totals.now }
+    requires ready { IsReady run.now put.now.multipliers put.now.x pulls.now }
     requires scenario { scenario < scenarios run.now }
     requires costs { costs.now ≡ (problem_in run.now scenario).line }
     ensures { IfOk result
         (λ line. line
-        ≡ map (hedged_line run.now multipliers.now x.now scenario)
+        ≡ map (hedged_line run.now put.now.multipliers put.now.x scenario)
         (range_with_len 0 (length run.now.program.columns))) }
 {
-    let nodes = nodes_for(alloc, run, scenario)?;
     let mut line = List::new(alloc);
     for column in 0..run.program.columns.len() as u32 {
         let cost = costs[column as usize];
-        line.push(hedged_cost(
-            run,
-            multipliers,
-            x,
-            totals,
-            nodes.as_slice(),
-            scenario,
-            column,
-            cost,
-        ))?;
+        line.push(hedged_cost(run, put, pulls, scenario, column, cost))?;
     }
     Ok(line)
 }
@@ -155,24 +123,23 @@ fn penalties(alloc: Global, run: &Run, scenario: u32) -> Result<List<i128>, Allo
     Ok(square)
 }
 
-/// The hedged problem of a scenario at multipliers and the values that they were
-/// moved by.
+/// The hedged problem of a scenario at the multipliers of a put and the values
+/// that they were moved by.
 pub fn hedged(
     alloc: Global,
     run: &Run,
-    multipliers: &Multipliers,
-    x: &List<i64>,
-    totals: &Totals,
+    put: &Put,
+    pulls: &List<i128>,
     scenario: u32,
 ) -> Result<Boxed, AllocError>
-    requires ready { IsReady run.now multipliers.now x.now totals.now }
+    requires ready { IsReady run.now put.now.multipliers put.now.x pulls.now }
     requires scenario { scenario < scenarios run.now }
     ensures { IfOk result
-        (λ problem. problem_of problem ≡ hedged_in run.now multipliers.now x.now scenario) }
+        (λ problem. problem_of problem ≡ hedged_in run.now put.now.multipliers put.now.x scenario) }
 {
     let problem = run.scenario(alloc, scenario)?;
     let costs = problem.line.as_slice();
-    let line = hedged_costs(alloc, run, multipliers, x, totals, scenario, costs)?;
+    let line = hedged_costs(alloc, run, put, pulls, scenario, costs)?;
     let square = penalties(alloc, run, scenario)?;
     Ok(with_objective(problem, 0, line, square))
 }

@@ -2,13 +2,13 @@
 //! own best points, and each next one from their hedged problems.
 #![tactic(auto)]
 
-mod bundles;
 mod hedge;
 mod hedged;
 mod making;
 mod moving;
 mod solving;
-mod totals;
+mod sums;
+mod tables;
 
 pub use hedge::{FirstFault, Hedge, NextFault, first, next};
-pub use totals::node_sum;
+pub use sums::node_sum;

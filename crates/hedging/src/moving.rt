@@ -1,26 +1,22 @@
-ghost use Rattle.std.specs.Prelude.{◌≡◌, ◌+◌, ◌*◌, ◌-◌, ◌<◌, ◌==◌, ℤ, ◌-ℤ◌, ◌*ℤ◌, ◌++◌, OnOk, map, IfOk};
-ghost use Rattle.std.specs.List.{range_with_len};
+ghost use Rattle.std.specs.Prelude.{◌≡◌, ◌<◌, ◌≤◌, ◌^◌, ◌==◌, ◌-ℤ◌, ◌*ℤ◌, pos, length, unsigned_abs};
 ghost use Rattle.base_words.specs.ListSums.{sum_z};
-ghost use Rattle.hedging.specs.Bundles.{nodes_for};
-ghost use Rattle.hedging.specs.Totals.{AreTotals, IsInner, IsReady};
-ghost use Rattle.put_words.specs.NextMultipliers.{front_of, last_of, move_in, moved, next_of, no_multipliers, rise};
+ghost use Rattle.hedging.specs.Tables.{AreSums};
+ghost use Rattle.put_words.specs.Hedged.{pull};
+ghost use Rattle.put_words.specs.NextMultipliers.{front_of, last_of, move_in, rise};
 ghost use Rattle.put_words.specs.NodeSums.{AreInside, node_for, sum_of, value_at, weight_at, weight_of};
 ghost use Rattle.sp_model.specs.Problems.{scenarios};
 ghost use Rattle.tree_core.specs.Nodes.{scenarios_at};
 
-use crate::bundles::{node_for, nodes_for};
-use crate::totals::{Totals, members, weight, wide_value};
+use crate::sums::{Sums, members, weight, wide_value};
 use put_words::{minus, opposite, plus, times};
-use run_calls::multiplier;
-use sp_model::{Multipliers, Run};
-use std::alloc::{AllocError, Global};
+use sp_model::Run;
 use wide_num::List;
 
 // Node weight times value, less the node's sum.
-fn apart(run: &Run, x: &List<i64>, totals: &Totals, node: u32, scenario: u32, column: u32) -> i128
+fn apart(run: &Run, x: &List<i64>, sums: &Sums, node: u32, scenario: u32, column: u32) -> i128
     requires inside { AreInside run.now x.now }
-    requires totals { AreTotals run.now x.now totals.now }
-    requires node { IsInner run.now node }
+    requires sums { AreSums run.now x.now node column sums.now }
+    requires node { node < length run.now.program.tree.nodes }
     requires scenario { scenario < scenarios run.now }
     requires column { column < run.now.nonleaf }
     ensures { result
@@ -29,11 +25,8 @@ fn apart(run: &Run, x: &List<i64>, totals: &Totals, node: u32, scenario: u32, co
         x.now scenario column) -ℤ sum_of run.now x.now
         (scenarios_at run.now.program.tree.nodes node) column }
 {
-    let whole = times(
-        totals.weight(run, x, node),
-        wide_value(run, x, scenario, column),
-    );
-    minus(whole, totals.sum(run, x, node, column))
+    let whole = times(sums.weight, wide_value(run, x, scenario, column));
+    minus(whole, sums.sum)
 }
 
 // Penalty times weight.
@@ -46,10 +39,10 @@ pub fn rate(run: &Run, scenario: u32) -> i128
 
 // How far the value of a scenario lies above its node's mean, times penalty
 // and weight, rounded down.
-fn rise(run: &Run, x: &List<i64>, totals: &Totals, node: u32, scenario: u32, column: u32) -> i128
+fn rise(run: &Run, x: &List<i64>, sums: &Sums, node: u32, scenario: u32, column: u32) -> i128
     requires inside { AreInside run.now x.now }
-    requires totals { AreTotals run.now x.now totals.now }
-    requires node { IsInner run.now node }
+    requires sums { AreSums run.now x.now node column sums.now }
+    requires node { node < length run.now.program.tree.nodes }
     requires scenario { scenario < scenarios run.now }
     requires column { column < run.now.nonleaf }
     ensures { result
@@ -57,16 +50,16 @@ fn rise(run: &Run, x: &List<i64>, totals: &Totals, node: u32, scenario: u32, col
 {
     let product = times(
         rate(run, scenario),
-        apart(run, x, totals, node, scenario, column),
+        apart(run, x, sums, node, scenario, column),
     );
-    totals.share(run, x, node, product)
+    sums.share(run, x, node, column, product)
 }
 
 // The sum of the rises of all scenarios of a node but the last.
-fn front_rises(run: &Run, x: &List<i64>, totals: &Totals, node: u32, column: u32) -> i128
+fn front_rises(run: &Run, x: &List<i64>, sums: &Sums, node: u32, column: u32) -> i128
     requires inside { AreInside run.now x.now }
-    requires totals { AreTotals run.now x.now totals.now }
-    requires node { IsInner run.now node }
+    requires sums { AreSums run.now x.now node column sums.now }
+    requires node { node < length run.now.program.tree.nodes }
     requires column { column < run.now.nonleaf }
     ensures { result
         ≡ sum_z (rise run.now x.now (scenarios_at run.now.program.tree.nodes node) column)
@@ -75,14 +68,14 @@ fn front_rises(run: &Run, x: &List<i64>, totals: &Totals, node: u32, column: u32
     let members = members(run, node);
     let mut sum = 0i128;
     for i in 0..members.len() - 1 {
-        sum = plus(sum, rise(run, x, totals, node, members[i], column));
+        sum = plus(sum, rise(run, x, sums, node, members[i], column));
     }
     sum
 }
 
 // Whether a scenario is the last one of a node.
 fn is_last(run: &Run, node: u32, scenario: u32) -> bool
-    requires { IsInner run.now node }
+    requires { node < length run.now.program.tree.nodes }
     ensures { result ≡ (scenario == last_of (scenarios_at run.now.program.tree.nodes node)) }
 {
     let members = members(run, node);
@@ -90,102 +83,40 @@ fn is_last(run: &Run, node: u32, scenario: u32) -> bool
 }
 
 // The move of a scenario in its node.
-fn move_in(run: &Run, x: &List<i64>, totals: &Totals, node: u32, scenario: u32, column: u32) -> i128
+pub fn move_in(run: &Run, x: &List<i64>, sums: &Sums, node: u32, scenario: u32, column: u32) -> i128
     requires inside { AreInside run.now x.now }
-    requires totals { AreTotals run.now x.now totals.now }
-    requires node { IsInner run.now node }
+    requires sums { AreSums run.now x.now node column sums.now }
+    requires node { node < length run.now.program.tree.nodes }
     requires scenario { scenario < scenarios run.now }
     requires column { column < run.now.nonleaf }
     ensures { result
         ≡ move_in run.now x.now (scenarios_at run.now.program.tree.nodes node) column scenario }
 {
     if is_last(run, node, scenario) {
-        opposite(front_rises(run, x, totals, node, column))
+        opposite(front_rises(run, x, sums, node, column))
     } else {
-        rise(run, x, totals, node, scenario, column)
+        rise(run, x, sums, node, scenario, column)
     }
 }
 
-// The next multiplier of a scenario and a nonleaf column.
-fn moved(
-    run: &Run,
-    multipliers: &Multipliers,
-    x: &List<i64>,
-    totals: &Totals,
-    nodes: &[u32],
-    scenario: u32,
-    column: u32,
-) -> i128
-    requires ready { IsReady run.now multipliers.now x.now totals.now }
-    requires nodes { nodes.now ≡ nodes_for run.now scenario }
+// Twice a number of small magnitude.
+pub fn twice(a: i128) -> i128
+    requires { unsigned_abs a ≤ 2 ^ 123 }
+    ensures { result ≡ pos 2 *ℤ a }
+{
+    2 * a
+}
+
+// Twice penalty times weight times the mean of a scenario's node, rounded down.
+pub fn pull(run: &Run, x: &List<i64>, sums: &Sums, node: u32, scenario: u32, column: u32) -> i128
+    requires inside { AreInside run.now x.now }
+    requires sums { AreSums run.now x.now node column sums.now }
+    requires node { node < length run.now.program.tree.nodes }
+    requires is { node ≡ node_for run.now scenario column }
     requires scenario { scenario < scenarios run.now }
     requires column { column < run.now.nonleaf }
-    ensures { result ≡ moved run.now multipliers.now x.now scenario column }
+    ensures { result ≡ pull run.now x.now scenario column }
 {
-    let node = node_for(run, nodes, scenario, column);
-    plus(
-        multiplier(run, multipliers, scenario, column),
-        move_in(run, x, totals, node, scenario, column),
-    )
-}
-
-// Appends the next multipliers of a scenario.
-fn push_moved(
-    alloc: Global,
-    run: &Run,
-    multipliers: &Multipliers,
-    x: &List<i64>,
-    totals: &Totals,
-    scenario: u32,
-    values: &mut List<i128>,
-) -> Result<(), AllocError>
-    requires ready { IsReady run.now multipliers.now x.now totals.now }
-    requires scenario { scenario < scenarios run.now }
-    ensures { OnOk result
-        (values.new
-        ≡ values.old
-        ++ map (moved run.now multipliers.now x.now scenario)
-        (range_with_len 0 run.now.nonleaf)) }
-{
-    let nodes = nodes_for(alloc, run, scenario)?;
-    for column in 0..run.nonleaf {
-        values.push(moved(
-            run,
-            multipliers,
-            x,
-            totals,
-            nodes.as_slice(),
-            scenario,
-            column,
-        ))?;
-    }
-    Ok(())
-}
-
-/// The multipliers that some values move others to.
-pub fn next_multipliers(
-    alloc: Global,
-    run: &Run,
-    multipliers: &Multipliers,
-    x: &List<i64>,
-    totals: &Totals,
-) -> Result<Multipliers, AllocError>
-    requires { IsReady run.now multipliers.now x.now totals.now }
-    ensures { IfOk result (λ next. next ≡ next_of run.now multipliers.now x.now) }
-{
-    let mut values = List::new(alloc);
-    for scenario in 0..run.program.scenarios.len() as u32 {
-        push_moved(alloc, run, multipliers, x, totals, scenario, &mut values)?;
-    }
-    Ok(Multipliers { values })
-}
-
-/// Multipliers of 0.
-pub fn no_multipliers(alloc: Global, run: &Run) -> Result<Multipliers, AllocError>
-    ensures { IfOk result (λ none. none ≡ no_multipliers run.now) }
-{
-    let values = vec![in alloc; 0i128; run.program.scenarios.len() * run.nonleaf as usize]?;
-    Ok(Multipliers {
-        values: List::from_vec(values),
-    })
+    let product = times(twice(rate(run, scenario)), sums.sum);
+    sums.share(run, x, node, column, product)
 }

@@ -2,7 +2,7 @@ ghost use Rattle.std.specs.Prelude.{◌≡◌, ◌<◌, List, Some, IfErr, IfOk}
 ghost use Rattle.boxed_problem.specs.Optimum.{best_of};
 ghost use Rattle.hedging.specs.Hedges.{FirstFails, NextFails};
 ghost use Rattle.hedging.specs.Solves.{BestFails};
-ghost use Rattle.hedging.specs.Totals.{AreTotals};
+ghost use Rattle.hedging.specs.Tables.{ArePulls};
 ghost use Rattle.put_words.specs.Hedged.{hedged_in};
 ghost use Rattle.put_words.specs.NodeSums.{AreInside};
 ghost use Rattle.put_words.specs.Puts.{bests_below};
@@ -12,7 +12,7 @@ ghost use Rattle.sp_model.specs.Problems.{problem_in, scenarios, wait_and_see_of
 
 use crate::hedge::{FirstFault, NextFault};
 use crate::hedged::hedged;
-use crate::totals::{Totals, sum_nodes};
+use crate::tables::pulls;
 use boxed_problem::Best;
 use branch_bound::{SolveFault, solve};
 use put_words::plus;
@@ -72,20 +72,20 @@ fn hedged_best(
     alloc: Global,
     run: &Run,
     put: &Put,
-    totals: &Totals,
+    pulls: &List<i128>,
     scenario: u32,
 ) -> Result<Best, NextFault>
     requires long { AreLong run.now put.now.multipliers }
     requires sized { AreSized run.now put.now.multipliers }
     requires inside { AreInside run.now put.now.x }
-    requires totals { AreTotals run.now put.now.x totals.now }
+    requires pulls { ArePulls run.now put.now.x pulls.now }
     requires scenario { scenario < scenarios run.now }
     requires point { HavePoints run.now (scenarios run.now) }
     ensures ok { IfOk result
         (λ best. best_of (hedged_in run.now put.now.multipliers put.now.x scenario) ≡ Some best) }
     ensures err { IfErr result (NextFails run.now put.now) }
 {
-    let Ok(problem) = hedged(alloc, run, &put.multipliers, &put.x, totals, scenario) else {
+    let Ok(problem) = hedged(alloc, run, put, pulls, scenario) else {
         return Err(NextFault::Memory);
     };
     match solve(alloc, &problem, run.options.budget) {
@@ -107,12 +107,12 @@ pub fn next_points(alloc: Global, run: &Run, put: &Put) -> Result<List<List<i64>
         ≡ Some points) }
     ensures err { IfErr result (NextFails run.now put.now) }
 {
-    let Ok(totals) = sum_nodes(alloc, run, &put.x) else {
+    let Ok(pulls) = pulls(alloc, run, &put.x) else {
         return Err(NextFault::Memory);
     };
     let mut points = List::new(alloc);
     for scenario in 0..run.program.scenarios.len() as u32 {
-        let Best { point, .. } = match hedged_best(alloc, run, put, &totals, scenario) {
+        let Best { point, .. } = match hedged_best(alloc, run, put, &pulls, scenario) {
             Ok(best) => best,
             Err(fault) => return Err(fault),
         };

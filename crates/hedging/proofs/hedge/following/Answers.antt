@@ -1,7 +1,6 @@
-use Rattle.std.proofs.Common.{arith, sym, ap, ◌∙◌, ◌≤◌, ◌+◌, Some}
+use Rattle.std.proofs.Common.{arith, ◌≤◌, ◌+◌}
 use Rattle.put_words.specs.Hedged.{hedged_in}
-use Rattle.put_words.specs.Puts.{Made}
-use Rattle.put_words.proofs.Following.{bests_inside, bests_wide, put_next}
+use Rattle.put_words.proofs.Following.{bests_wide}
 use Rattle.put_words.proofs.Inside.{hedged_over, put_inside, put_long}
 use Rattle.put_words.proofs.Rises.{put_sized}
 use Rattle.put_words.proofs.Unpriced.{put_points}
@@ -23,31 +22,8 @@ next_points-requires-clause-inside c = put_inside c.args.run.now c.args.hedge.no
 pub next_points-requires-clause-points : goal.next_points-requires-clause-points
 next_points-requires-clause-points c = put_points c.args.run.now c.args.hedge.now.put.number (made_of c.args.hedge.now) c.requires.put
 
-pub make_put-requires-clause-long : goal.make_put-requires-clause-long
-make_put-requires-clause-long c = put_long c.args.run.now c.args.hedge.now.put.number (made_of c.args.hedge.now) c.requires.put
-
-pub make_put-requires-clause-sized : goal.make_put-requires-clause-sized
-make_put-requires-clause-sized c =
-    let run = c.args.run.now in
-    let few : c.args.hedge.now.put.number ≤ run.options.iterations + 1 = omega (arith, c.requires.more) in
-    put_sized run c.args.hedge.now.put.number (made_of c.args.hedge.now) few c.requires.put
-
-pub make_put-requires-clause-wide : goal.make_put-requires-clause-wide
-make_put-requires-clause-wide c =
+pub early_values-requires : goal.early_values-requires
+early_values-requires c =
     let run = c.args.run.now in
     let put = c.args.hedge.now.put in
     bests_wide run (hedged_in run put.multipliers put.x) c.in-Ok.points (hedged_over run put.multipliers put.x) c.in-Ok.ensures.ok
-
-pub make_put-requires-clause-inside : goal.make_put-requires-clause-inside
-make_put-requires-clause-inside c =
-    let run = c.args.run.now in
-    let put = c.args.hedge.now.put in
-    bests_inside run (hedged_in run put.multipliers put.x) c.in-Ok.points (hedged_over run put.multipliers put.x) c.in-Ok.ensures.ok
-
-pub returns-clause-ok : goal.returns-clause-ok
-returns-clause-ok c =
-    let run = c.args.run.now in
-    put_next run c.args.hedge.now.put.number (made_of c.args.hedge.now) c.in-Ok.points c.requires.put c.in-Ok.ensures.ok ∙ ap Some (sym c.in-Ok-make_put.ensures)
-
-pub returns-clause-number : goal.returns-clause-number
-returns-clause-number c = ap (λ (made : Made). made.put.number) c.in-Ok-make_put.ensures

@@ -5,9 +5,9 @@ use Rattle.hedging.proofs.hedged.hedged.Goals as goal
 
 pub with_objective-requires : goal.with_objective-requires
 with_objective-requires c =
-    hedged_ready c.args.run.now c.args.multipliers.now c.args.x.now c.args.scenario c.in_ok-problem.problem c.in_ok-line.line c.in_ok-square.square c.requires.ready.sized c.requires.ready.inside c.requires.scenario c.in_ok-problem.ensures c.in_ok-line.ensures c.in_ok-square.ensures
+    hedged_ready c.args.run.now c.args.put.now.multipliers c.args.put.now.x c.args.scenario c.in_ok-problem.problem c.in_ok-line.line c.in_ok-square.square c.requires.ready.sized c.requires.ready.inside c.requires.scenario c.in_ok-problem.ensures c.in_ok-line.ensures c.in_ok-square.ensures
 
 pub returns : goal.returns
 returns c =
     c.with_objective.ensures
-    ∙ hedged_same c.args.run.now c.args.multipliers.now c.args.x.now c.args.scenario (problem_of c.in_ok-problem.problem) c.in_ok-line.line c.in_ok-square.square c.in_ok-problem.ensures c.in_ok-line.ensures c.in_ok-square.ensures
+    ∙ hedged_same c.args.run.now c.args.put.now.multipliers c.args.put.now.x c.args.scenario (problem_of c.in_ok-problem.problem) c.in_ok-line.line c.in_ok-square.square c.in_ok-problem.ensures c.in_ok-line.ensures c.in_ok-square.ensures

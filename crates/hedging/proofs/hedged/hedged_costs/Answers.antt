@@ -28,4 +28,4 @@ pub loop-column-preserved : goal.loop-column-preserved
 loop-column-preserved c =
     let fv : FitsSigned w128 c.hedged_cost.result = search rules in
     let pushed : c.push.new.self ≡ c.loop-column.line ++ c.hedged_cost.result ∷ [] = simp to_z-of_z at c.in_ok-push.ensures.ok in
-    map_next (hedged_line c.args.run.now c.args.multipliers.now c.args.x.now c.args.scenario) c.loop-column.column c.loop-column.line c.push.new.self c.hedged_cost.result pushed c.hedged_cost.ensures c.loop-column.invariant
+    map_next (hedged_line c.args.run.now c.args.put.now.multipliers c.args.put.now.x c.args.scenario) c.loop-column.column c.loop-column.line c.push.new.self c.hedged_cost.result pushed c.hedged_cost.ensures c.loop-column.invariant

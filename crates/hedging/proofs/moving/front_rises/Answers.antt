@@ -8,7 +8,7 @@ use Rattle.hedging.proofs.Fitting.{node_filled, rises_fit}
 use Rattle.hedging.proofs.moving.front_rises.Goals as goal
 
 pub overflow_sub-i-end : goal.overflow_sub-i-end
-overflow_sub-i-end c = omega (arith, ap length c.members-members.ensures.value, node_filled c.args.run.now c.args.node c.requires.node.there)
+overflow_sub-i-end c = omega (arith, ap length c.members-members.ensures.value, node_filled c.args.run.now c.args.node c.requires.node)
 
 pub plus-sum-requires : goal.plus-sum-requires
 plus-sum-requires c =
@@ -20,7 +20,7 @@ plus-sum-requires c =
     let within : k < length ns = omega (arith, ap length c.members-members.ensures.value, c.loop-i-test.true) in
     let is : c.rise.result ≡ f (get_or ns k 0) = c.rise.ensures ∙ ap (λ (ms : List ℕ). f (get_or ms k 0)) c.members-members.ensures.value in
     let next = fold_next f ns k 0 (to_z w128 c.loop-i.sum-bits) c.rise.result within c.loop-i.invariant is in
-    simp to_z-of_z (rw next (rises_fit run c.args.x.now c.args.node c.args.column (k + 1) c.requires.inside c.requires.node.there c.requires.column))
+    simp to_z-of_z (rw next (rises_fit run c.args.x.now c.args.node c.args.column (k + 1) c.requires.inside c.requires.node c.requires.column))
 
 pub loop-i-preserved : goal.loop-i-preserved
 loop-i-preserved c =

@@ -7,5 +7,5 @@ use Rattle.hedging.proofs.moving.move_in.Goals as goal
 pub opposite-requires : goal.opposite-requires
 opposite-requires c =
     let ff : FitsSigned w128 c.front_rises.result = search rules in
-    let h : FitsSigned w128 (neg_ℤ c.front_rises.result) = rw c.front_rises.ensures (opposite_fits c.args.run.now c.args.x.now c.args.node c.args.column c.requires.inside c.requires.node.there c.requires.column) in
+    let h : FitsSigned w128 (neg_ℤ c.front_rises.result) = rw c.front_rises.ensures (opposite_fits c.args.run.now c.args.x.now c.args.node c.args.column c.requires.inside c.requires.node c.requires.column) in
     simp to_z-of_z h

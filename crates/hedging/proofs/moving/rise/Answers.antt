@@ -8,5 +8,5 @@ pub times-product-requires : goal.times-product-requires
 times-product-requires c =
     let fr : FitsSigned w128 c.rate.result = search rules in
     let fa : FitsSigned w128 c.apart.result = search rules in
-    let h : FitsSigned w128 (c.rate.result *ℤ c.apart.result) = rw (c.rate.ensures, c.apart.ensures) (numerator_fits c.args.run.now c.args.x.now c.args.node c.args.scenario c.args.column c.requires.inside c.requires.node.there c.requires.scenario c.requires.column) in
+    let h : FitsSigned w128 (c.rate.result *ℤ c.apart.result) = rw (c.rate.ensures, c.apart.ensures) (numerator_fits c.args.run.now c.args.x.now c.args.node c.args.scenario c.args.column c.requires.inside c.requires.node c.requires.scenario c.requires.column) in
     simp to_z-of_z h

@@ -7,7 +7,7 @@ hedged-requires-clause-ready c = record {
   long = c.requires.long;
   sized = c.requires.sized;
   inside = c.requires.inside;
-  summed = c.requires.totals;
+  pulled = c.requires.pulls;
 }
 
 pub unreachable-requires : goal.unreachable-requires
