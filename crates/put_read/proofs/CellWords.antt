@@ -1,14 +1,14 @@
 -- One spelling for one cell, and how a put grows cell after cell.
-use Rattle.std.proofs.Common.{arith, refl, sym, ap, ◌∙◌, subst, ◌≡◌, ℕ, ◌+◌, ◌*◌, ◌/◌, ◌%◌, ◌<◌, ◌≤◌, ◌^◌, List, [], ◌∷◌, length, get_or, set, take, ℤ, pos, FitsSigned, ◌⊎◌, inl, inr, get_or-set_other, get_or-set_same, length-set}
+use Rattle.std.proofs.Common.{arith, refl, sym, ap, ◌∙◌, ◌≡◌, ℕ, ◌+◌, ◌*◌, ◌<◌, ◌≤◌, ◌^◌, List, [], ◌∷◌, length, get_or, set, ℤ, pos, FitsSigned, ◌⊎◌, inl, inr, get_or-set_other, get_or-set_same, length-set}
 use Rattle.std.specs.Int.{cast_signed, cast_unsigned, w64, w128}
 use Rattle.std.proofs.lemmas.Bool.{cases_lt}
 use Rattle.std.proofs.lemmas.Int.{ints, to_z-of_z}
 use Rattle.std.proofs.lemmas.Nat.{div-add-mod'}
 use Rattle.base_words.specs.Sums.{number_at}
-use Rattle.word_codec.specs.Spelling.{AreCellWords, BeginAlike, IsFirstOff, IsValue, bits_of, cell_words, high_of, low_of}
+use Rattle.word_codec.specs.Spelling.{AreCellWords, IsFirstOff, IsValue, bits_of, cell_words, high_of, low_of}
 use Rattle.run_calls.specs.declared.put.Put.{Put}
-use Rattle.put_codec.specs.Entries.{AgreeBelow, IsSpelled}
-use Rattle.put_read.specs.Cells.{HasCell, HasCells, HasPlaces, KeepsShape}
+use Rattle.put_codec.specs.Entries.{AgreeBelow}
+use Rattle.put_read.specs.Cells.{HasCell, HasPlaces, KeepsShape}
 
 -- a signed number is found in its bits again
 bits_once : (a b : ℤ) → FitsSigned w128 a → FitsSigned w128 b → bits_of a ≡ bits_of b → a ≡ b

@@ -1,3 +1,4 @@
+mod Accepting
 mod CellWords
 mod Putting
 mod Taking

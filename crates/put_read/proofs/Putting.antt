@@ -1,5 +1,5 @@
 -- A put is filled part after part, and a reading of a run's windows is one of its puts.
-use Rattle.std.proofs.Common.{arith, refl, sym, ap, ◌∙◌, subst, ◌≡◌, ◌≢◌, ℕ, ◌+◌, ◌-◌, ◌*◌, ◌/◌, ◌<◌, ◌≤◌, ◌^◌, nat_lt, Bool, true, false, List, [], length, get_or, ℤ, Option, Some, None, if◌then◌else◌}
+use Rattle.std.proofs.Common.{arith, sym, ap, ◌∙◌, subst, ◌≡◌, ℕ, ◌+◌, ◌-◌, ◌*◌, ◌/◌, ◌<◌, ◌≤◌, ◌^◌, Bool, false, List, [], length, ℤ, Some, if◌then◌else◌}
 use Rattle.std.specs.Option.{option_map_or}
 use Rattle.std.proofs.Math.Nat.{zero-div}
 use Rattle.word_codec.specs.Spelling.{reply_words}
@@ -8,9 +8,10 @@ use Rattle.sp_model.specs.declared.run.Run.{Run}
 use Rattle.put_words.specs.Puts.{Made, put_of}
 use Rattle.put_words.proofs.Inside.{put_number}
 use Rattle.log_words.specs.Replies.{reply_of}
+use Rattle.window_words.specs.Views.{after}
 use Rattle.window_words.specs.declared.views.View.{View}
 use Rattle.stamped_read.specs.Promises.{ReadsFor, TellsWhole, IsSameGroup}
-use Rattle.stamped_read.specs.Readers.{Reader, fresh_part, part, words_of}
+use Rattle.stamped_read.specs.Readers.{IsReader, Reader, due, fresh_part, next, words_of}
 use Rattle.stamped_read.specs.declared.read.Read.TheVariants as read
 use Rattle.std.proofs.lemmas.List.FromFn.{length-map-range_with_len}
 use Rattle.base_words.proofs.NumberTests.{test_from_less}
@@ -22,7 +23,8 @@ use Rattle.put_codec.proofs.Fitting.{part_length}
 use Rattle.put_codec.proofs.Places.{rank_width, start_inside, start_last, start_rises}
 use Rattle.put_codec.proofs.Spellable.{put_fits, put_spelled}
 use Rattle.put_read.specs.Cells.{HasCells, HasPlaces, KeepsShape}
-use Rattle.put_read.specs.Reads.{AreShort, HasParts, ReadsPuts, TellsPut, fresh_in}
+use Rattle.put_read.specs.Reads.{Accepts, AreRanks, AreShort, HasParts, ReadsPuts, TellsPut, fresh_in, no_entry}
+use Rattle.put_read.proofs.Accepting.{stays_accepted, stays_reader}
 use Rattle.put_read.proofs.Taking.{part_cells, same_put}
 
 -- while parts are taken
@@ -98,24 +100,66 @@ by_layout run layout v s e reads = subst (λ z. ReadsFor (entry_of run) (width_o
 pub from_layout : (run : Run) (layout : Layout) (v : View) (s : Reader) → layout ≡ layout_in run → ReadsFor (entry_of run) (width_of layout) (windows_of layout) v s → ReadsFor (entry_of run) (width_of (layout_in run)) (windows_of (layout_in run)) v s
 from_layout run layout v s e reads = subst (λ z. ReadsFor (entry_of run) (width_of z) (windows_of z) v s) e reads
 
-pub new_reads : (run : Run) (layout : Layout) (s : Reader) (put : Put) → layout ≡ layout_in run → FitsLayout layout put → s ≡ fresh_in layout → ((v : View) → ReadsFor (entry_of run) (width_of layout) (windows_of layout) v s) → (v : View) → ReadsPuts run v record { reader = s; layout = layout; put = put }
-new_reads run layout s put e room fresh reads v = record {
-  layout_is = e;
-  begins = ap (λ (z : Reader). z.window) fresh;
-  many = ap (λ (z : Reader). length z.parts) fresh ∙ (length-map-range_with_len (fresh_part (width_of layout)) 0 layout.ranks ∙ ap (λ (z : Layout). z.ranks) e);
-  room = room;
-  reads = from_layout run layout v s e (reads v);
+-- a reader that has read nothing has no reading and no parts, whatever the entries are
+fresh_any : (entry entry' : ℕ → ℕ → List ℕ) (wide : ℕ → ℕ) (count count' : ℕ) (v : View) (s : Reader) → count ≤ count' → s.begun ≡ false → s.rank ≡ 0 → ReadsFor entry wide count v s → ReadsFor entry' wide count' v s
+fresh_any entry entry' wide count count' v s more b z h = record {
+  laid = λ i l. let old = h.laid i l in let under = old.0 in (omega arith, old.1);
+  reading = λ t. absurd (cc);
+  parts = λ i l. absurd (omega arith);
+}
+
+fresh_facts : (s : Reader) → 0 < length s.parts → s.begun ≡ false → s.rank ≡ 0 → IsReader s
+fresh_facts s some b z = record { below = omega arith; begins_newer = λ t. absurd (cc); follows_newer = λ l. absurd (omega arith) }
+
+fresh_accepts : (leaders : ℕ) (v : View) (s : Reader) → leaders ≤ length v.accepted → s.rank ≡ 0 → s.last ≡ 0 → Accepts leaders v.accepted s
+fresh_accepts leaders v s wide z none = record { wide = wide; followed = λ i l. omega arith; parts = λ i l. absurd (omega arith) }
+
+pub new_reads : (run : Run) (layout : Layout) (s : Reader) (put : Put) → layout ≡ layout_in run → FitsLayout layout put → s ≡ fresh_in layout → ((v : View) → ReadsFor no_entry (width_of layout) layout.ranks v s) → (v : View) → run.options.ranks ≤ length v.accepted → ReadsPuts run v record { reader = s; layout = layout; put = put }
+new_reads run layout s put e room fresh reads v wide =
+    let many : length s.parts ≡ run.options.ranks = ap (λ (z : Reader). length z.parts) fresh ∙ (length-map-range_with_len (fresh_part (width_of layout)) 0 layout.ranks ∙ ap (λ (z : Layout). z.ranks) e) in
+    let some = run.facts.options_fit.some_ranks in
+    let begun : s.begun ≡ false = ap (λ (z : Reader). z.begun) fresh in
+    let rank : s.rank ≡ 0 = ap (λ (z : Reader). z.rank) fresh in
+    record {
+      layout_is = e;
+      begins = ap (λ (z : Reader). z.window) fresh;
+      many = many;
+      room = room;
+      reads = from_layout run layout v s e (fresh_any no_entry (entry_of run) (width_of layout) layout.ranks (windows_of layout) v s (omega arith) begun rank (reads v));
+      facts = fresh_facts s (omega arith) begun rank;
+      accepts = fresh_accepts run.options.ranks v s wide rank (ap (λ (z : Reader). z.last) fresh);
+    }
+
+-- the ranks' windows of a run
+pub run_ranks : (run : Run) (layout : Layout) → layout ≡ layout_in run → AreRanks layout
+run_ranks run layout e = let some = run.facts.options_fit.some_ranks in let same = ap (λ (z : Layout). z.ranks) e in record {
+  some = omega arith;
+  narrow = λ i l.
+      let rises = start_rises layout i (omega arith) in
+      let inside = start_inside layout (i + 1) (omega arith) in
+      let few = run.facts.counts.nonleaf_cells in
+      let all = ap all_cells e in
+      omega arith;
+  wide = λ w k l low high. absurd (omega arith);
+  few = omega arith;
+  led = omega arith;
 }
 
 -- a reader that made a step reads on
-pub steps_on : (run : Run) (v v' : View) (r : PutReader) (s' : Reader) (put' : Put) (layout : Layout) → layout ≡ layout_in run → ReadsPuts run v r → IsSameGroup r.reader s' → ReadsFor (entry_of run) (width_of layout) (windows_of layout) v' s' → FitsLayout r.layout put' → ReadsPuts run v' record { reader = s'; layout = r.layout; put = put' }
-steps_on run v v' r s' put' layout e h group reads room = record {
-  layout_is = h.layout_is;
-  begins = group.0 ∙ h.begins;
-  many = group.1 ∙ h.many;
-  room = room;
-  reads = from_layout run layout v' s' e reads;
-}
+pub steps_on : (run : Run) (v v' : View) (r : PutReader) (s' : Reader) (put' : Put) (layout : Layout) (n : ℕ) → layout ≡ layout_in run → ReadsPuts run v r → IsSameGroup r.reader s' → v' ≡ after layout.ranks (due r.reader) n v → s' ≡ next (due r.reader) r.reader n
+    → ReadsFor (entry_of run) (width_of layout) (windows_of layout) v' s' → FitsLayout r.layout put' → ReadsPuts run v' record { reader = s'; layout = r.layout; put = put' }
+steps_on run v v' r s' put' layout n e h group knows stands reads room =
+    let ranks : layout.ranks ≡ run.options.ranks = ap (λ (z : Layout). z.ranks) e in
+    let view : after run.options.ranks (due r.reader) n v ≡ v' = ap (λ z. after z (due r.reader) n v) (sym ranks) ∙ sym knows in
+    record {
+      layout_is = h.layout_is;
+      begins = group.0 ∙ h.begins;
+      many = group.1 ∙ h.many;
+      room = room;
+      reads = from_layout run layout v' s' e reads;
+      facts = subst IsReader (sym stands) (stays_reader r.reader n h.facts);
+      accepts = subst (λ (z : View × Reader). Accepts run.options.ranks z.0.accepted z.1) (λ i. (view i, sym stands i)) (stays_accepted run.options.ranks v r.reader n h.accepts h.facts h.begins h.many h.reads.reading);
+    }
 
 pub step_short : (run : Run) (v v' : View) (r : PutReader) (s' : Reader) (layout : Layout) → layout ≡ layout_in run → ReadsPuts run v r → IsSameGroup r.reader s' → ReadsFor (entry_of run) (width_of layout) (windows_of layout) v' s' → AreShort r.layout s'
 step_short run v v' r s' layout e h group reads = subst (λ z. AreShort z s') (sym h.layout_is) (short_parts run v' s' (group.0 ∙ h.begins) (group.1 ∙ h.many) (from_layout run layout v' s' e reads))

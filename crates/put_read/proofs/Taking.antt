@@ -1,17 +1,15 @@
 -- A put that is filled cell after cell and part after part becomes the put whose words were read.
-use Rattle.std.proofs.Common.{arith, refl, sym, ap, ◌∙◌, subst, ◌≡◌, ℕ, ◌+◌, ◌*◌, ◌/◌, ◌<◌, ◌≤◌, List, length, get_or, ℤ, pos, FitsSigned}
+use Rattle.std.proofs.Common.{arith, refl, sym, ap, ◌∙◌, ◌≡◌, ℕ, ◌+◌, ◌*◌, ◌/◌, ◌<◌, List, length, get_or, ℤ, pos, FitsSigned}
 use Rattle.std.proofs.lemmas.List.{ext_get_or}
 use Rattle.base_words.specs.Sums.{number_at}
 use Rattle.std.specs.Int.{w128}
-use Rattle.word_codec.specs.Spelling.{IsValue, cell_words}
+use Rattle.word_codec.specs.Spelling.{IsValue}
 use Rattle.run_calls.specs.declared.put.Put.{Put}
-use Rattle.sp_model.specs.declared.plan.Multipliers.{Multipliers}
 use Rattle.put_codec.specs.declared.layout.Layout.{Layout}
-use Rattle.put_codec.specs.Entries.{AgreeBelow, FitsLayout, IsSpelled, part_words, words_at}
-use Rattle.put_codec.specs.Layouts.{all_cells, cells_of, start_of, width_of}
+use Rattle.put_codec.specs.Entries.{AgreeBelow, IsSpelled, part_words, words_at}
+use Rattle.put_codec.specs.Layouts.{cells_of, start_of}
 use Rattle.put_codec.proofs.Fitting.{part_length}
 use Rattle.put_codec.proofs.Pieces.{piece_at}
-use Rattle.put_codec.proofs.Places.{rank_width, start_inside, start_last, start_rises}
 use Rattle.put_read.specs.Cells.{HasCell, HasCells, HasPlaces, KeepsShape}
 
 -- while cells are taken: the lists keep their lengths, and as many cells agree

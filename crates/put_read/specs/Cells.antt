@@ -1,9 +1,8 @@
 -- Cells of a put and the words that they have.
 
-use Rattle.std.specs.Prelude.{◌≡◌, ℕ, ◌+◌, ◌*◌, ◌/◌, ◌<◌, ◌≤◌, List, length, slice_index, ℤ, FitsSigned}
-use Rattle.std.specs.Int.{w128}
+use Rattle.std.specs.Prelude.{◌≡◌, ℕ, ◌+◌, ◌*◌, ◌/◌, ◌<◌, ◌≤◌, List, length, slice_index, ℤ}
 use Rattle.base_words.specs.Sums.{number_at}
-use Rattle.word_codec.specs.Spelling.{IsValue, cell_words}
+use Rattle.word_codec.specs.Spelling.{cell_words}
 use Rattle.run_calls.specs.declared.put.Put.{Put}
 
 -- the three words of number i among some words are those of a multiplier and a value

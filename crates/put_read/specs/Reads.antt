@@ -1,17 +1,19 @@
 -- What a reader of puts keeps, and what its answers promise.
 
-use Rattle.std.specs.Prelude.{◌≡◌, ℕ, ◌<◌, ◌≤◌, ◌+◌, length, map, Some}
+use Rattle.std.specs.Prelude.{◌≡◌, ℕ, ◌<◌, ◌≤◌, ◌+◌, ◌*◌, ◌/◌, ◌^◌, List, [], length, map, slice_index_or, Some}
 use Rattle.std.specs.List.{range_with_len}
 use Rattle.run_calls.specs.declared.put.Put.{Put}
 use Rattle.sp_model.specs.declared.run.Run.{Run}
 use Rattle.put_words.specs.Puts.{Made, put_of}
+use Rattle.window_words.specs.Conditions.{AreEntriesWide}
+use Rattle.window_words.specs.Views.{last_of}
 use Rattle.window_words.specs.declared.views.View.{View}
 use Rattle.stamped_read.specs.Promises.{ReadsFor}
-use Rattle.stamped_read.specs.Readers.{Reader, fresh_part, fresh_reader, words_of}
+use Rattle.stamped_read.specs.Readers.{IsReader, Reader, fresh_part, fresh_reader, words_of}
 use Rattle.stamped_read.specs.declared.read.Read.{Read}
 use Rattle.stamped_read.specs.declared.read.Read.TheVariants as read
-use Rattle.put_codec.specs.Entries.{FitsLayout, IsSpelled, entry_of, part_words}
-use Rattle.put_codec.specs.Layouts.{layout_in, width_of, windows_of}
+use Rattle.put_codec.specs.Entries.{FitsLayout, entry_of, part_words}
+use Rattle.put_codec.specs.Layouts.{cells_of, layout_in, width_of, windows_of}
 use Rattle.put_codec.specs.declared.layout.Layout.{Layout}
 use Rattle.put_read.specs.declared.reader.PutReader.{PutReader}
 
@@ -20,8 +22,27 @@ abbrev pub fresh_in : Layout → Reader
 fresh_in layout =
     fresh_reader 0 (map (fresh_part (width_of layout)) (range_with_len 0 layout.ranks))
 
--- the reader reads the puts of a run for a seat with this view: it reads all ranks' windows, and
--- its put has room for the run's cells
+-- no window has an entry
+abbrev pub no_entry : ℕ → ℕ → List ℕ
+no_entry w k = []
+
+-- the ranks' windows of a layout, with no entry: their words can be counted
+pub record AreRanks (layout : Layout) : Type 0 where
+  pub some : 1 ≤ layout.ranks
+  pub narrow : (i : ℕ) → i < layout.ranks → 3 * cells_of layout i < 2 ^ 64
+  pub wide : AreEntriesWide no_entry (width_of layout) layout.ranks 0
+  pub few : 0 < 2 ^ 62
+  pub led : layout.ranks ≤ layout.ranks
+
+-- of each rank a seat has accepted the last put that was read whole, and the one that is read where
+-- that rank's part was read, or a later one
+pub record Accepts (leaders : ℕ) (accepted : List (List ℕ)) (s : Reader) : Type 0 where
+  pub wide : leaders ≤ length accepted
+  pub followed : (i : ℕ) → i < leaders → s.last ≤ last_of (slice_index_or accepted i [])
+  pub parts : (i : ℕ) → i < s.rank → s.first / 2 ≤ last_of (slice_index_or accepted i [])
+
+-- the reader reads the puts of a run for a seat with this view: it reads all ranks' windows, its
+-- put has room for the run's cells, and the seat has accepted what it read
 pub record ReadsPuts (run : Run) (v : View) (r : PutReader) : Type 0 where
   pub layout_is : r.layout ≡ layout_in run
   pub begins : r.reader.window ≡ 0
@@ -29,6 +50,8 @@ pub record ReadsPuts (run : Run) (v : View) (r : PutReader) : Type 0 where
   pub room : FitsLayout r.layout r.put
   pub reads : ReadsFor (entry_of run) (width_of (layout_in run)) (windows_of (layout_in run))
       v r.reader
+  pub facts : IsReader r.reader
+  pub accepts : Accepts run.options.ranks v.accepted r.reader
 
 -- the put that was read stays, and which one is the last
 pub record KeepsPut (r r' : PutReader) : Type 0 where

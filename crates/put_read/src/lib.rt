@@ -4,5 +4,6 @@
 
 mod filling;
 mod reader;
+mod windows;
 
 pub use reader::PutReader;

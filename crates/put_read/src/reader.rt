@@ -3,15 +3,16 @@ ghost use Rattle.window_words.specs.declared.views.View.{View};
 ghost use Rattle.stamped_read.specs.Promises.{Makes};
 ghost use Rattle.stamped_read.specs.Readers.{due};
 ghost use Rattle.put_codec.specs.Entries.{AgreeBelow, FitsLayout, IsSpelled};
-ghost use Rattle.put_codec.specs.Layouts.{all_cells};
+ghost use Rattle.put_codec.specs.Layouts.{all_cells, layout_in};
 ghost use Rattle.put_read.specs.Reads.{AreShort, HasParts, ReadsPuts, TellsPut, fresh_in};
 ghost use Rattle.put_read.specs.Cells.{KeepsShape};
 ghost use Rattle.run_calls.specs.declared.put.Put.{Put};
 
 use crate::filling::take_part;
+use crate::windows::rank_windows;
 use put_codec::{Layout, RunMeaning, start};
 use run_calls::Put;
-use sp_model::Multipliers;
+use sp_model::{Multipliers, Run};
 use stamped_read::{Read, StampedReader};
 use std::alloc::{AllocError, Global};
 use wide_num::List;
@@ -60,16 +61,17 @@ fn fill(reader: &StampedReader, layout: &Layout, number: u64, put: &mut Put)
 impl PutReader {
     /// A reader that has read nothing. It takes here all the memory that it
     /// needs.
-    pub fn new(alloc: Global, of: &RunMeaning) -> Result<PutReader, AllocError>
-        ensures fresh { IfOk result (λ reader. reader.reader ≡ fresh_in of.now.layout) }
+    pub fn new(alloc: Global, run: &Run) -> Result<PutReader, AllocError>
+        ensures fresh { IfOk result (λ reader. reader.reader ≡ fresh_in (layout_in run.now)) }
         ensures reads { IfOk result (λ reader. (v : View) →
-            ReadsPuts of.now.run.value v reader) }
+            run.now.options.ranks ≤ length v.accepted → ReadsPuts run.now v reader) }
     {
-        let reader = StampedReader::new(alloc, of)?;
-        let put = blank(alloc, &of.layout)?;
+        let windows = rank_windows(run);
+        let reader = StampedReader::new(alloc, &windows)?;
+        let put = blank(alloc, &windows.layout)?;
         Ok(PutReader {
             reader,
-            layout: of.layout,
+            layout: windows.layout,
             put,
         })
     }

@@ -12,7 +12,7 @@ fill-requires-clause-small g c = cells_few (g.B.Board.of c.args.board.now).run.v
 pub returns-in-Reading-clause-reads : goal.returns-in-Reading-clause-reads
 returns-in-Reading-clause-reads g c =
     let of = g.B.Board.of c.args.board.now in
-    steps_on of.run.value (g.B.Board.view c.args.board.now) (g.B.Board.view c.step.new.board) c.args.self.now c.step.new.self c.fill.new.put of.layout of.facts.layout_is c.requires c.step.ensures.group c.step.ensures.reads c.fill.ensures.room
+    steps_on of.run.value (g.B.Board.view c.args.board.now) (g.B.Board.view c.step.new.board) c.args.self.now c.step.new.self c.fill.new.put of.layout c.step.ensures.made.0 of.facts.layout_is c.requires c.step.ensures.group c.step.ensures.made.1.knows c.step.ensures.made.1.stands c.step.ensures.reads c.fill.ensures.room
 
 pub returns-in-Reading-clause-tells : goal.returns-in-Reading-clause-tells
 returns-in-Reading-clause-tells g c =
@@ -22,9 +22,9 @@ returns-in-Reading-clause-tells g c =
 pub returns-in-Going-clause-reads : goal.returns-in-Going-clause-reads
 returns-in-Going-clause-reads g c =
     let of = g.B.Board.of c.args.board.now in
-    steps_on of.run.value (g.B.Board.view c.args.board.now) (g.B.Board.view c.step.new.board) c.args.self.now c.step.new.self c.args.self.now.put of.layout of.facts.layout_is c.requires c.step.ensures.group c.step.ensures.reads c.requires.room
+    steps_on of.run.value (g.B.Board.view c.args.board.now) (g.B.Board.view c.step.new.board) c.args.self.now c.step.new.self c.args.self.now.put of.layout c.step.ensures.made.0 of.facts.layout_is c.requires c.step.ensures.group c.step.ensures.made.1.knows c.step.ensures.made.1.stands c.step.ensures.reads c.requires.room
 
 pub returns-in-Again-clause-reads : goal.returns-in-Again-clause-reads
 returns-in-Again-clause-reads g c =
     let of = g.B.Board.of c.args.board.now in
-    steps_on of.run.value (g.B.Board.view c.args.board.now) (g.B.Board.view c.step.new.board) c.args.self.now c.step.new.self c.args.self.now.put of.layout of.facts.layout_is c.requires c.step.ensures.group c.step.ensures.reads c.requires.room
+    steps_on of.run.value (g.B.Board.view c.args.board.now) (g.B.Board.view c.step.new.board) c.args.self.now c.step.new.self c.args.self.now.put of.layout c.step.ensures.made.0 of.facts.layout_is c.requires c.step.ensures.group c.step.ensures.made.1.knows c.step.ensures.made.1.stands c.step.ensures.reads c.requires.room
