@@ -1,0 +1,9 @@
+mod Closing
+mod FinishingSpoke
+mod Leading
+mod Proceeding
+mod ReadLeading
+mod Replying
+mod Standing
+mod StartingSpoke
+mod Valuing

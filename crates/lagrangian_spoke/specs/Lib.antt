@@ -1,0 +1,11 @@
+pub mod Answering
+pub mod Spokes
+pub use Rattle.branch_bound.specs.PlainSearch
+pub use Rattle.dual_value.specs.Duals
+pub use Rattle.log_words.specs.Replies
+pub use Rattle.put_read.specs.Reads
+pub use Rattle.put_words.specs.Puts
+pub use Rattle.run_calls.specs.MultiplierTests
+pub use Rattle.sp_model.specs.Problems
+pub use Rattle.stamped_read.specs.Readers
+pub use Rattle.word_codec.specs.Spelling
