@@ -34,6 +34,9 @@ pub both_right : (p q : Bool) → (p && q) ≡ true → q ≡ true
 both_right true q h = h
 both_right false q h = absurd cc
 
+pub both_parts : (p q : Bool) → (p && q) ≡ true → (p ≡ true) × (q ≡ true)
+both_parts p q h = (both_left p q h, both_right p q h)
+
 pub both : (p q : Bool) → p ≡ true → q ≡ true → (p && q) ≡ true
 both true q h k = k
 both false q h k = h

@@ -21,11 +21,11 @@ pub first_some-append : {A B : Type 0} (f : A → Option B) (xs ys : List A) →
 first_some-append f [] ys = refl
 first_some-append f (x ∷ xs) ys = ap (option_or (f x)) (first_some-append f xs ys) ∙ option_or_assoc (f x) (first_some f xs) (first_some f ys)
 
-left_none : {B : Type 0} (a b : Option B) → option_or a b ≡ None → a ≡ None
+pub left_none : {B : Type 0} (a b : Option B) → option_or a b ≡ None → a ≡ None
 left_none None b h = refl
 left_none (Some v) b h = cc
 
-right_none : {B : Type 0} (a b : Option B) → option_or a b ≡ None → b ≡ None
+pub right_none : {B : Type 0} (a b : Option B) → option_or a b ≡ None → b ≡ None
 right_none None b h = h
 right_none (Some v) b h = cc
 

@@ -7,6 +7,8 @@ pub mod ListSumsByNumber
 pub mod Made
 pub mod Magnitudes
 pub mod NumberTests
+pub mod Pairs
+pub mod Positions
 pub mod Products
 pub mod Quotients
 pub mod SumBounds

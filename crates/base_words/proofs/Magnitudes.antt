@@ -18,6 +18,11 @@ abs-less (pos a) (negsuc b) = omega (arith, ints)
 abs-less (negsuc a) (pos b) = omega (arith, ints)
 abs-less (negsuc a) (negsuc b) = omega (arith, ints)
 
+-- a number of no magnitude
+pub abs_none : (a : ℤ) → unsigned_abs a ≤ 0 → a ≡ pos 0
+abs_none (pos n) h = omega (arith, ints)
+abs_none (negsuc n) h = absurd (omega arith)
+
 -- the magnitude of the opposite
 pub abs_opposite : (a : ℤ) → unsigned_abs (neg_ℤ a) ≡ unsigned_abs a
 abs_opposite (pos zero) = refl

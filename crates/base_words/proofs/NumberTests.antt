@@ -21,7 +21,7 @@ some_from_test a e = grind arith
 pub none_from_test : (a : ℕ) → nat_le 1 a ≡ false → a ≡ 0
 none_from_test a e = grind arith
 
--- numbers that are told the same are equal
+-- numbers that are tested equal are the same
 pub same_from_test : (a b : ℕ) → (a == b) ≡ true → a ≡ b
 same_from_test a b e = grind arith
 

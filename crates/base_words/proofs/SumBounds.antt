@@ -34,6 +34,19 @@ size_below-part n g j h =
     let p : size_below (suc j) g ≤ size_below n g = size_below-le (suc j) n g (omega arith) in
     omega (arith, p)
 
+-- sums of parts that are the same, that are no greater, and that are sums
+pub size_below-same : (n : ℕ) (f g : ℕ → ℕ) → ((k : ℕ) → k < n → f k ≡ g k) → size_below n f ≡ size_below n g
+size_below-same zero f g h = refl
+size_below-same (suc n) f g h = omega (arith, h n (omega arith), size_below-same n f g (λ k l. h k (omega arith)))
+
+pub size_below-mono : (n : ℕ) (f g : ℕ → ℕ) → ((k : ℕ) → k < n → f k ≤ g k) → size_below n f ≤ size_below n g
+size_below-mono zero f g h = omega arith
+size_below-mono (suc n) f g h = omega (arith, h n (omega arith), size_below-mono n f g (λ k l. h k (omega arith)))
+
+pub size_below-add : (n : ℕ) (f g : ℕ → ℕ) → size_below n (λ k. f k + g k) ≡ size_below n f + size_below n g
+size_below-add zero f g = refl
+size_below-add (suc n) f g = omega (arith, size_below-add n f g)
+
 -- a fold of sums, by the magnitudes of its parts
 pub fold-abs : {E : Type 0} (f : E → ℤ) (g : E → ℕ) → ((e : E) → unsigned_abs (f e) ≤ g e) → (a : ℤ) (es : List E) → unsigned_abs (fold (λ s e. s +ℤ f e) a es) ≤ unsigned_abs a + sum_by g es
 fold-abs f g h a [] = omega arith

@@ -30,7 +30,7 @@ same_pair : (a b : ℤ) (u w : Option ℤ) → a ≡ b → u ≡ w → paired a 
 same_pair a b u w e f = cc
 
 -- one more reply
-pub pair_push : (first : ℤ) (replies : List Bound) (reply : Bound) → pair_with (pair_after first replies) reply ≡ pair_after first (replies ++ reply ∷ [])
+pair_push : (first : ℤ) (replies : List Bound) (reply : Bound) → pair_with (pair_after first replies) reply ≡ pair_after first (replies ++ reply ∷ [])
 pair_push first replies (Lower value) =
     same_pair _ _ _ _
     (sym (ap (fold int_max first) (lowers_push replies (Lower value)) ∙ greatest_push first (filter_map lower_of replies) value))

@@ -34,7 +34,7 @@ set_within (t ∷ box) (suc j) s h l f u g =
     uppers r zero m = omega (arith, ints)
     uppers r (suc k) m = r.upper k (omega arith)
 
-pub size_below-order : (n : ℕ) (f g : ℕ → ℕ) → ((k : ℕ) → f k ≤ g k) → size_below n f ≤ size_below n g
+size_below-order : (n : ℕ) (f g : ℕ → ℕ) → ((k : ℕ) → f k ≤ g k) → size_below n f ≤ size_below n g
 size_below-order zero f g h = omega arith
 size_below-order (suc n) f g h = omega (arith, h n, size_below-order n f g h)
 

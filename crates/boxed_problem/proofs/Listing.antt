@@ -15,12 +15,12 @@ count_is (pos n) h = omega (arith, ints)
 count_is (negsuc zero) h = omega (arith, ints)
 count_is (negsuc (suc n)) h = absurd (omega (arith, ints))
 
-pub count_none : (z : ℤ) → z <ℤ pos 0 → count_to z ≡ 0
+count_none : (z : ℤ) → z <ℤ pos 0 → count_to z ≡ 0
 count_none (pos n) h = absurd (omega (arith, ints))
 count_none (negsuc n) h = refl
 
 -- the points above v begin with those at v + 1
-pub points_above-next : (s : Side) (ss : List Side) (v : ℤ) → v <ℤ s.upper →
+points_above-next : (s : Side) (ss : List Side) (v : ℤ) → v <ℤ s.upper →
     points_above s ss v ≡ map (λ x. (v +ℤ pos 1) ∷ x) (box_points ss) ++ points_above s ss (v +ℤ pos 1)
 points_above-next s ss v h =
     let n = count_is (s.upper -ℤ (v +ℤ pos 1)) (omega (arith, ints)) in
@@ -28,7 +28,7 @@ points_above-next s ss v h =
     let e : count_to (s.upper -ℤ (v +ℤ pos 1)) ≡ suc (count_to (s.upper -ℤ ((v +ℤ pos 1) +ℤ pos 1))) = omega (arith, ints) in
     ap (λ k. flat_map (λ w. map (λ x. w ∷ x) (box_points ss)) (run_from (v +ℤ pos 1) k)) e
 
-pub points_above-last : (s : Side) (ss : List Side) (v : ℤ) → s.upper ≤ℤ v → points_above s ss v ≡ []
+points_above-last : (s : Side) (ss : List Side) (v : ℤ) → s.upper ≤ℤ v → points_above s ss v ≡ []
 points_above-last s ss v h =
     ap (λ k. flat_map (λ w. map (λ x. w ∷ x) (box_points ss)) (run_from (v +ℤ pos 1) k)) (count_none (s.upper -ℤ (v +ℤ pos 1)) (omega (arith, ints)))
 
@@ -56,7 +56,7 @@ next_with-points s ss v x f u None e = ap (λ ps. map (λ y. v ∷ y) ps ++ poin
         points_above-last s ss v l
 
 -- the points from x on are x and those from the next one on
-pub points_from-step : (box : List Side) (x : List ℤ) → Filled box → OnSides box x → points_from box x ≡ x ∷ points_after box (next_point box x)
+points_from-step : (box : List Side) (x : List ℤ) → Filled box → OnSides box x → points_from box x ≡ x ∷ points_after box (next_point box x)
 points_from-step [] [] f h = refl
 points_from-step [] (v ∷ x) f h = absurd h
 points_from-step (s ∷ ss) [] f h = absurd h

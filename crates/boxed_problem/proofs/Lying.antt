@@ -25,7 +25,7 @@ corner_at (s ∷ ss) zero = refl
 corner_at (s ∷ ss) (suc j) = corner_at ss j
 
 -- past the end of a box
-pub side_past : (box : List Side) (j : ℕ) → length box ≤ j → side_at box j ≡ no_side
+side_past : (box : List Side) (j : ℕ) → length box ≤ j → side_at box j ≡ no_side
 side_past [] j h = refl
 side_past (s ∷ ss) zero h = absurd (omega arith)
 side_past (s ∷ ss) (suc j) h = side_past ss j (omega arith)
@@ -70,7 +70,7 @@ within_trans inner middle outer v w = record {
   upper = λ j l. let p = within_at inner middle v j in let q = within_at middle outer w j in omega (arith, ints, p.1, q.1);
 }
 
-pub lies_within : (inner outer : List Side) (x : List ℤ) → Within inner outer → Lies inner x → Lies outer x
+lies_within : (inner outer : List Side) (x : List ℤ) → Within inner outer → Lies inner x → Lies outer x
 lies_within inner outer x w l j =
     let p = within_at inner outer w j in
     let q = l j in

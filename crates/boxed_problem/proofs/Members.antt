@@ -14,16 +14,16 @@ abbrev pub Member : List ℤ → List (List ℤ) → Type 0
 Member x [] = ⊥
 Member x (y ∷ ys) = (x ≡ y) ⊎ Member x ys
 
-pub member_left : (x : List ℤ) (xs ys : List (List ℤ)) → Member x xs → Member x (xs ++ ys)
+member_left : (x : List ℤ) (xs ys : List (List ℤ)) → Member x xs → Member x (xs ++ ys)
 member_left x [] ys h = absurd h
 member_left x (y ∷ xs) ys (inl e) = inl e
 member_left x (y ∷ xs) ys (inr h) = inr (member_left x xs ys h)
 
-pub member_right : (x : List ℤ) (xs ys : List (List ℤ)) → Member x ys → Member x (xs ++ ys)
+member_right : (x : List ℤ) (xs ys : List (List ℤ)) → Member x ys → Member x (xs ++ ys)
 member_right x [] ys h = h
 member_right x (y ∷ xs) ys h = inr (member_right x xs ys h)
 
-pub member_map : (v : ℤ) (x : List ℤ) (xs : List (List ℤ)) → Member x xs → Member (v ∷ x) (map (λ y. v ∷ y) xs)
+member_map : (v : ℤ) (x : List ℤ) (xs : List (List ℤ)) → Member x xs → Member (v ∷ x) (map (λ y. v ∷ y) xs)
 member_map v x [] h = absurd h
 member_map v x (y ∷ xs) (inl e) = inl (ap (λ z. v ∷ z) e)
 member_map v x (y ∷ xs) (inr h) = inr (member_map v x xs h)

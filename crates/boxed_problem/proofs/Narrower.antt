@@ -41,15 +41,18 @@ numbers_small line square s most h f =
     wide (negsuc l) (pos u) h = omega (arith, ints)
     wide (negsuc l) (negsuc u) h = omega (arith, ints)
 
--- narrower sides make entries no greater
-pub entry_size-within : (inner outer : List Side) (i : ℕ) (e : Entry) → Within inner outer → entry_size inner i e ≤ entry_size outer i e
-entry_size-within inner outer i e w = by_test (e.row == i)
+-- sides that reach no further make entries no greater, and so do narrower ones
+pub entry_size-reach : (inner outer : List Side) (i : ℕ) (e : Entry) → reach (side_at inner e.column) ≤ reach (side_at outer e.column) → entry_size inner i e ≤ entry_size outer i e
+entry_size-reach inner outer i e h = by_test (e.row == i)
   where
     by_test : (t : Bool) → (if t then unsigned_abs e.value * reach (side_at inner e.column) else 0) ≤ (if t then unsigned_abs e.value * reach (side_at outer e.column) else 0)
-    by_test true = mul-le-mul_left (unsigned_abs e.value) (within_reach inner outer w e.column)
+    by_test true = mul-le-mul_left (unsigned_abs e.value) h
     by_test false = omega arith
 
-pub sum_by-order : {E : Type 0} (f g : E → ℕ) → ((e : E) → f e ≤ g e) → (es : List E) → sum_by f es ≤ sum_by g es
+entry_size-within : (inner outer : List Side) (i : ℕ) (e : Entry) → Within inner outer → entry_size inner i e ≤ entry_size outer i e
+entry_size-within inner outer i e w = entry_size-reach inner outer i e (within_reach inner outer w e.column)
+
+sum_by-order : {E : Type 0} (f g : E → ℕ) → ((e : E) → f e ≤ g e) → (es : List E) → sum_by f es ≤ sum_by g es
 sum_by-order f g h [] = omega arith
 sum_by-order f g h (e ∷ es) = omega (arith, sum_by-cons f e es, sum_by-cons g e es, h e, sum_by-order f g h es)
 

@@ -48,7 +48,7 @@ later_least b x xs best l r = record { member = inr r.member; value = r.value; l
     firsts y (inl e) p = let d = ap (value_of b) e in omega (arith, ints, d)
     firsts y (inr m) p = r.first y m p
 
-pub least_none : (b : Problem) (xs : List (List ℤ)) → first_least b xs ≡ None → xs ≡ []
+least_none : (b : Problem) (xs : List (List ℤ)) → first_least b xs ≡ None → xs ≡ []
 least_none b [] e = refl
 least_none b (x ∷ xs) e = absurd cc
 
@@ -77,10 +77,10 @@ pub filled_of : (b : Boxed) → Filled b.columns
 filled_of b = recursion_from_All (λ (s : Side). s.lower ≤ℤ s.upper) b.columns b.facts.filled
 
 -- the list of feasible points holds just these
-pub feasible_listed : (b : Problem) (x : List ℤ) → Feasible b x → Member x (feasible_points b)
+feasible_listed : (b : Problem) (x : List ℤ) → Feasible b x → Member x (feasible_points b)
 feasible_listed b x f = member_filter (meets_all b) x (box_points b.columns) (point_listed b.columns x (in_on b.columns x f.inside)) (feasible_meets b x f)
 
-pub listed_feasible : (b : Problem) (x : List ℤ) → Filled b.columns → Member x (feasible_points b) → Feasible b x
+listed_feasible : (b : Problem) (x : List ℤ) → Filled b.columns → Member x (feasible_points b) → Feasible b x
 listed_feasible b x filled m =
     let p = filter_member (meets_all b) x (box_points b.columns) m in
     feasible_from b x (on_in b.columns x (member_all (OnSides b.columns) x (box_points b.columns) (listed_on b.columns filled) p.0)) p.1

@@ -10,7 +10,7 @@ use Rattle.boxed_problem.proofs.Listing.{count_is}
 one_on : (s : Side) → s.lower ≤ℤ s.upper → 1 ≤ side_count s
 one_on s h = let n = count_is (s.upper -ℤ s.lower) (omega (arith, ints)) in omega (arith, ints)
 
-pub some_points : (box : List Side) → Filled box → 1 ≤ point_count box
+some_points : (box : List Side) → Filled box → 1 ≤ point_count box
 some_points [] f = omega arith
 some_points (s ∷ ss) f = mul-le-mul (one_on s f.0) (some_points ss f.1)
 

@@ -21,7 +21,7 @@ row_met (suc n) rows entries x i h l = by_place (nat_lt i n) refl (λ k. row_met
         subst (λ j. meets (limits_at rows j) (activity entries x j) ≡ true) k (both_right (meets_rows n rows entries x) (meets (limits_at rows n) (activity entries x n)) h)
 
 -- where each row is met, all are
-pub rows_met : (n : ℕ) (rows : List Limits) (entries : List Entry) (x : List ℤ) → ((i : ℕ) → i < n → meets (limits_at rows i) (activity entries x i) ≡ true) → meets_rows n rows entries x ≡ true
+rows_met : (n : ℕ) (rows : List Limits) (entries : List Entry) (x : List ℤ) → ((i : ℕ) → i < n → meets (limits_at rows i) (activity entries x i) ≡ true) → meets_rows n rows entries x ≡ true
 rows_met zero rows entries x h = refl
 rows_met (suc n) rows entries x h = both (meets_rows n rows entries x) (meets (limits_at rows n) (activity entries x n)) (rows_met n rows entries x (λ i l. h i (omega arith))) (h n (omega arith))
 

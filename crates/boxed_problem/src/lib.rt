@@ -15,6 +15,7 @@ mod problem;
 mod scanning;
 
 pub use feasibility::{is_at_least, is_at_most, is_met, product, row_activity};
+pub use magnitude::limits_reach;
 pub use objective::column_value;
 pub use odometer::first_point;
 pub use parts::{Best, Entry, Limits, Prices, Side};

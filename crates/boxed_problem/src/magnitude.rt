@@ -85,7 +85,7 @@ fn limit_reach(limit: Option<i128>) -> u128
 }
 
 /// The greater magnitude of a row's limits.
-fn limits_reach(limits: Limits) -> u128
+pub fn limits_reach(limits: Limits) -> u128
     ensures { result ≡ limits_size limits }
 {
     let lower = limit_reach(limits.lower);

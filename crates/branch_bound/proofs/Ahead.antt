@@ -41,7 +41,7 @@ lower_three a p r = by_tests (int_lt p.value a.value) (int_lt r.value p.value) (
     by_tests false false true e f g = absurd (grind (arith, ints))
     by_tests false false false e f g = ap (λ q. if q then r else a) g ∙ sym (ap (λ q. if q then p else a) e)
 
-pub merged_merged : (a o f : Option Best) → merged (merged a o) f ≡ merged a (merged o f)
+merged_merged : (a o f : Option Best) → merged (merged a o) f ≡ merged a (merged o f)
 merged_merged None None None = refl
 merged_merged None None (Some r) = refl
 merged_merged None (Some p) None = refl
@@ -52,7 +52,7 @@ merged_merged (Some a) (Some p) None = refl
 merged_merged (Some a) (Some p) (Some r) = ap (λ z. Some z) (lower_three a p r)
 
 -- what there was to beat at the start may be put in at the end
-pub after_merged : (b : Problem) (start best : Option Best) (xs : List (List ℤ)) → best_after b (merged start best) xs ≡ merged start (best_after b best xs)
+after_merged : (b : Problem) (start best : Option Best) (xs : List (List ℤ)) → best_after b (merged start best) xs ≡ merged start (best_after b best xs)
 after_merged b start best xs =
     best_after-is b (merged start best) xs
     ∙ (merged_merged start best (first_least b (filter (meets_all b) xs)) ∙ ap (λ o. merged start o) (sym (best_after-is b best xs)))
@@ -87,7 +87,7 @@ pub below_after : (b : Problem) (best : Option Best) (xs : List (List ℤ)) (v :
 below_after b best xs v h = below_earlier v best (first_least b (filter (meets_all b) xs)) (ap (λ o. improves v o) (sym (best_after-is b best xs)) ∙ h)
 
 -- a box that isn't pruned where there is more to beat isn't pruned
-pub not_pruned_later : (b : Problem) (box : List Side) (start best : Option Best) → is_pruned b box (merged start best) ≡ false → is_pruned b box best ≡ false
+not_pruned_later : (b : Problem) (box : List Side) (start best : Option Best) → is_pruned b box (merged start best) ≡ false → is_pruned b box best ≡ false
 not_pruned_later b box start best h =
     by_tests (misses_one (length b.rows) b.rows b.entries box) (improves (least_value b box) (merged start best)) (improves (least_value b box) best) h (below_later (least_value b box) start best)
   where
@@ -97,7 +97,7 @@ not_pruned_later b box start best h =
     by_tests false true true h k = refl
     by_tests false true false h k = absurd (let e = k refl in cc)
 
-pub ahead_best : (b : Problem) (start : Option Best) (box : List Side) (p q : Progress) → Filled box → p.best ≡ merged start q.best → (search b box p).best ≡ merged start (search b box q).best
+ahead_best : (b : Problem) (start : Option Best) (box : List Side) (p q : Progress) → Filled box → p.best ≡ merged start q.best → (search b box p).best ≡ merged start (search b box q).best
 ahead_best b start box p q f e =
     search_best b box p f
     ∙ (ap (λ o. best_after b o (box_points box)) e
@@ -128,7 +128,7 @@ fewer (suc n) b start box p q f w a = by_test (is_pruned b box p.best) refl
         omega (arith, one, two, by_halves (halves box) refl r)
 
 -- the plain search of a box keeps one search ahead of another
-pub ahead_search : (b : Problem) (start : Option Best) (box : List Side) (p q : Progress) → Filled box → Ahead start p q → Ahead start (search b box p) (search b box q)
+ahead_search : (b : Problem) (start : Option Best) (box : List Side) (p q : Progress) → Filled box → Ahead start p q → Ahead start (search b box p) (search b box q)
 ahead_search b start box p q f a = record { best = ahead_best b start box p q f a.best; opened = fewer (suc (width box)) b start box p q f (omega arith) a }
 
 -- the search of the whole box from something to beat
@@ -188,12 +188,12 @@ ahead_done b start best n f k a = sym (a.best ∙ (ap (λ o. merged start o) (se
         ap (λ t. Some (if t then r else bar)) (test_from_below r.value bar.value (omega (arith, ints, k.2)))
 
 -- where the other search's best is below what this one began with, it is this one's
-pub best_below : (bar r : Best) (p q : Progress) → Ahead (Some bar) p q → q.best ≡ Some r → r.value <ℤ bar.value → p.best ≡ Some r
+best_below : (bar r : Best) (p q : Progress) → Ahead (Some bar) p q → q.best ≡ Some r → r.value <ℤ bar.value → p.best ≡ Some r
 best_below bar r p q a e l = a.best ∙ (ap (λ o. merged (Some bar) o) e ∙ ap (λ t. Some (if t then r else bar)) (test_from_below r.value bar.value l))
 
 -- else this one has none but what it began with
-pub best_not_below : (bar r : Best) (p q : Progress) → Ahead (Some bar) p q → q.best ≡ Some r → bar.value ≤ℤ r.value → p.best ≡ Some bar
+best_not_below : (bar r : Best) (p q : Progress) → Ahead (Some bar) p q → q.best ≡ Some r → bar.value ≤ℤ r.value → p.best ≡ Some bar
 best_not_below bar r p q a e l = a.best ∙ (ap (λ o. merged (Some bar) o) e ∙ ap (λ t. Some (if t then r else bar)) (test_from_above r.value bar.value l))
 
-pub best_none : (bar : Best) (p q : Progress) → Ahead (Some bar) p q → q.best ≡ None → p.best ≡ Some bar
+best_none : (bar : Best) (p q : Progress) → Ahead (Some bar) p q → q.best ≡ None → p.best ≡ Some bar
 best_none bar p q a e = a.best ∙ ap (λ o. merged (Some bar) o) e

@@ -1,5 +1,5 @@
 -- Sides narrowed by what the best so far leaves, under a reduced objective.
-use Rattle.std.proofs.Common.{arith, refl, ap, sym, subst, ◌∙◌, ◌≡◌, ℕ, zero, suc, ◌*◌, ◌^◌, ◌<◌, ◌≤◌, Bool, true, false, nat_lt, List, length, slice_set, ℤ, pos, negsuc, ◌+ℤ◌, ◌-ℤ◌, ◌*ℤ◌, ◌≤ℤ◌, ◌<ℤ◌, Option, Some, unsigned_abs}
+use Rattle.std.proofs.Common.{arith, refl, ap, sym, subst, ◌∙◌, ◌≡◌, ℕ, zero, suc, ◌*◌, ◌^◌, ◌<◌, ◌≤◌, Bool, true, false, nat_lt, List, length, slice_set, ℤ, pos, negsuc, ◌+ℤ◌, ◌-ℤ◌, ◌*ℤ◌, ◌≤ℤ◌, ◌<ℤ◌, Option, Some}
 use Rattle.std.proofs.lemmas.Int.{ints}
 use Rattle.boxed_problem.specs.Data.{Problem}
 use Rattle.safe_bound.specs.Leasts.{least_part}
@@ -91,7 +91,7 @@ column_narrows b r best m old new j slack s u o same l h k e marks =
     }
 
 -- narrower sides have no lower total
-pub total_rises : (r : Reduced) (inner outer : List Side) → Within inner outer → reduced_total r outer ≤ℤ reduced_total r inner
+total_rises : (r : Reduced) (inner outer : List Side) → Within inner outer → reduced_total r outer ≤ℤ reduced_total r inner
 total_rises r inner outer w =
     let p = sum_below-order (length r.columns) (least_part r.line r.square outer) (least_part r.line r.square inner)
     (λ j. let a = within_at inner outer w j in

@@ -1,5 +1,5 @@
 -- sides of one column cut by a slack above the least that it adds
-use Rattle.std.proofs.Common.{arith, refl, ap, ◌≡◌, ◌+◌, ◌*◌, ◌≤◌, ℕ, Bool, true, false, ℤ, pos, ◌+ℤ◌, ◌-ℤ◌, ◌*ℤ◌, ◌≤ℤ◌, ◌<ℤ◌, int_le, unsigned_abs}
+use Rattle.std.proofs.Common.{arith, ap, ◌≡◌, ◌*◌, ◌≤◌, ℤ, pos, ◌*ℤ◌, ◌≤ℤ◌}
 use Rattle.std.proofs.lemmas.Int.{ints, clamps}
 use Rattle.boxed_problem.specs.Objective.{curve}
 use Rattle.boxed_problem.specs.declared.parts.Side.{Side}
@@ -10,7 +10,7 @@ use Rattle.propagate.specs.Tightening.{KeepsAbove}
 use Rattle.safe_bound.specs.Leasts.{least_on}
 use Rattle.safe_bound.proofs.LeastLaws.{least_on-le}
 
-pub inside_self : (s : Side) → s.lower ≤ℤ s.upper → IsInside s s
+inside_self : (s : Side) → s.lower ≤ℤ s.upper → IsInside s s
 inside_self s f = record { lower = omega (arith, ints); filled = f; upper = omega (arith, ints) }
 
 -- with no square part the least is at one of the ends

@@ -1,6 +1,5 @@
 -- sides cut at a column keep what is better
 use Rattle.std.proofs.Common.{arith, ◌<◌, length, List, slice_set, ℕ, ℤ, ◌≤ℤ◌, Option}
-use Rattle.std.proofs.lemmas.Int.{ints}
 use Rattle.boxed_problem.specs.Data.{Problem}
 use Rattle.boxed_problem.specs.Sides.{Within, side_at}
 use Rattle.base_words.specs.Sums.{number_at}

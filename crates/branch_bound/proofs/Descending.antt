@@ -1,7 +1,6 @@
 -- Down the halving tree to a box that holds the sides.
-use Rattle.std.proofs.Common.{arith, refl, ap, sym, subst, ◌∙◌, ◌≡◌, ℕ, zero, suc, ◌==◌, Bool, true, false, not, ◌&&◌, length, List, [], ◌∷◌, ℤ, pos, ◌*ℤ◌, ◌≤ℤ◌, Option, Some, if◌then◌else◌}
-use Rattle.std.proofs.lemmas.Int.{ints, clamps}
-use Rattle.std.specs.Int.{int_max, int_min}
+use Rattle.std.proofs.Common.{arith, refl, ap, sym, subst, ◌∙◌, ◌≡◌, ℕ, zero, suc, Bool, true, false, not, ◌&&◌, length, List, [], ◌∷◌, ℤ, ◌≤ℤ◌, Option, Some}
+use Rattle.std.proofs.lemmas.Int.{ints}
 use Rattle.boxed_problem.specs.Data.{Problem}
 use Rattle.boxed_problem.specs.BoxedFacts.{limits_at}
 use Rattle.branch_bound.specs.Halves.{Halves, halves}
@@ -11,7 +10,7 @@ use Rattle.boxed_problem.specs.Odometer.{OnSides}
 use Rattle.boxed_problem.specs.Optimum.{improves}
 use Rattle.branch_bound.specs.PlainSearch.{Progress, is_pruned, search, with_opened}
 use Rattle.boxed_problem.specs.Points.{InBox, box_points}
-use Rattle.propagate.specs.Ranges.{high_activity, high_part, low_activity, low_part, misses, misses_one}
+use Rattle.propagate.specs.Ranges.{high_activity, low_activity, misses, misses_one}
 use Rattle.boxed_problem.specs.Rows.{is_above, is_below}
 use Rattle.boxed_problem.specs.Sides.{Filled, Within, side_at}
 use Rattle.base_words.specs.Sums.{number_at}
@@ -19,16 +18,15 @@ use Rattle.boxed_problem.specs.declared.parts.Best.{Best}
 use Rattle.boxed_problem.specs.declared.parts.Entry.{Entry}
 use Rattle.boxed_problem.specs.declared.parts.Limits.{Limits}
 use Rattle.boxed_problem.specs.declared.parts.Side.{Side}
-use Rattle.base_words.proofs.Comparisons.{above_from_test, both, both_left, both_right, not_not, test_from_above}
+use Rattle.base_words.proofs.Comparisons.{both, both_left, both_right, not_not}
 use Rattle.branch_bound.proofs.HalfLaws.{Cut, after, cut_of, filled_cut, here}
 use Rattle.boxed_problem.proofs.Least.{best_after}
 use Rattle.safe_bound.proofs.LeastLaws.{least_on-holds, least_on-le, sum_below-order}
 use Rattle.boxed_problem.proofs.Listing.{in_on}
 use Rattle.branch_bound.proofs.HalfLaws.{cut_within}
 use Rattle.boxed_problem.proofs.Lying.{filled_at, within_at, within_self, within_trans}
-use Rattle.base_words.proofs.Products.{times_between}
-use Rattle.base_words.proofs.Booleans.{either_false}
-use Rattle.propagate.proofs.RangeLaws.{either_left, either_right, above_more, below_less}
+use Rattle.base_words.proofs.Booleans.{either_false, or_left, or_right}
+use Rattle.propagate.proofs.RangeLaws.{above_more, below_less}
 use Rattle.propagate.proofs.Widening.{high_falls, low_rises}
 use Rattle.branch_bound.proofs.SearchLaws.{improves_less, search_best, search_on}
 use Rattle.branch_bound.specs.Narrowing.{Descends, KeepsBetter, NoneBelow, NotPast}
@@ -63,11 +61,11 @@ none_missed_wider : (n : ℕ) (rows : List Limits) (entries : List Entry) (inner
 none_missed_wider zero rows entries inner outer w e = refl
 none_missed_wider (suc n) rows entries inner outer w e =
     either_false (misses_one n rows entries outer) (misses (limits_at rows n) (low_activity entries outer n) (high_activity entries outer n))
-    (none_missed_wider n rows entries inner outer w (either_left (misses_one n rows entries inner) (misses (limits_at rows n) (low_activity entries inner n) (high_activity entries inner n)) e))
+    (none_missed_wider n rows entries inner outer w (or_left (misses_one n rows entries inner) (misses (limits_at rows n) (low_activity entries inner n) (high_activity entries inner n)) e))
     (misses_wider (limits_at rows n) (low_activity entries inner n) (high_activity entries inner n) (low_activity entries outer n) (high_activity entries outer n)
     (low_rises entries inner outer n w)
     (high_falls entries inner outer n w)
-    (either_right (misses_one n rows entries inner) (misses (limits_at rows n) (low_activity entries inner n) (high_activity entries inner n)) e))
+    (or_right (misses_one n rows entries inner) (misses (limits_at rows n) (low_activity entries inner n) (high_activity entries inner n)) e))
 
 -- a wider box has no greater least
 least_wider : (b : Problem) (inner outer : List Side) → Within inner outer → least_value b outer ≤ℤ least_value b inner
@@ -82,8 +80,8 @@ least_wider b inner outer w =
 pub not_pruned_wider : (b : Problem) (inner outer : List Side) (best : Option Best) → Within inner outer → is_pruned b inner best ≡ false → is_pruned b outer best ≡ false
 not_pruned_wider b inner outer best w e =
     either_false (misses_one (length b.rows) b.rows b.entries outer) (not (improves (least_value b outer) best))
-    (none_missed_wider (length b.rows) b.rows b.entries inner outer w (either_left (misses_one (length b.rows) b.rows b.entries inner) (not (improves (least_value b inner) best)) e))
-    (by_test (improves (least_value b outer) best) refl (not_not (improves (least_value b inner) best) (either_right (misses_one (length b.rows) b.rows b.entries inner) (not (improves (least_value b inner) best)) e)))
+    (none_missed_wider (length b.rows) b.rows b.entries inner outer w (or_left (misses_one (length b.rows) b.rows b.entries inner) (not (improves (least_value b inner) best)) e))
+    (by_test (improves (least_value b outer) best) refl (not_not (improves (least_value b inner) best) (or_right (misses_one (length b.rows) b.rows b.entries inner) (not (improves (least_value b inner) best)) e)))
   where
     by_test : (t : Bool) → improves (least_value b outer) best ≡ t → improves (least_value b inner) best ≡ true → not t ≡ false
     by_test true d k = refl
@@ -100,7 +98,7 @@ none_later b best box xs h x i m = by_test (improves (value_of b x) (best_after 
     by_test false e = refl
 
 -- where nothing of the high half is below the best, the search of the low half is not past that of the box
-pub low_past : (b : Problem) (box : List Side) (h : Halves) (p : Progress) → halves box ≡ Some h → Filled box → is_pruned b box p.best ≡ false → NoneBelow b p.best h.high → NotPast (search b h.low p) (search b box p)
+low_past : (b : Problem) (box : List Side) (h : Halves) (p : Progress) → halves box ≡ Some h → Filled box → is_pruned b box p.best ≡ false → NoneBelow b p.best h.high → NotPast (search b h.low p) (search b box p)
 low_past b box h p e f l none =
     let g = filled_cut (cut_of box h e) f in
     let t = search b h.low (with_opened p) in
@@ -112,7 +110,7 @@ low_past b box h p e f l none =
     subst (λ u. NotPast (search b h.low p) u) (sym step) (not_past-trans (search b h.low p) t (search b h.high t) first second)
 
 -- the same where nothing of the low half is
-pub high_past : (b : Problem) (box : List Side) (h : Halves) (p : Progress) → halves box ≡ Some h → Filled box → is_pruned b box p.best ≡ false → NoneBelow b p.best h.low → NotPast (search b h.high p) (search b box p)
+high_past : (b : Problem) (box : List Side) (h : Halves) (p : Progress) → halves box ≡ Some h → Filled box → is_pruned b box p.best ≡ false → NoneBelow b p.best h.low → NotPast (search b h.high p) (search b box p)
 high_past b box h p e f l none =
     let g = filled_cut (cut_of box h e) f in
     let step : search b box p ≡ search b h.high (search b h.low (with_opened p)) = search_on b box p (Some h) l e in
@@ -121,7 +119,7 @@ high_past b box h p e f l none =
     subst (λ u. NotPast (search b h.high p) u) (sym step) (not_past-search b h.high p (search b h.low (with_opened p)) g.1 first)
 
 -- the half that doesn't hold the sides holds nothing below the best
-pub low_none : (b : Problem) (best : Option Best) (box sides : List Side) (h : Halves) → halves box ≡ Some h → Filled box → Within sides h.high → KeepsBetter b best box sides → NoneBelow b best h.low
+low_none : (b : Problem) (best : Option Best) (box sides : List Side) (h : Halves) → halves box ≡ Some h → Filled box → Within sides h.high → KeepsBetter b best box sides → NoneBelow b best h.low
 low_none b best box sides h e f w k x i m = by_test (improves (value_of b x) best) refl
   where
     by_test : (t : Bool) → improves (value_of b x) best ≡ t → t ≡ false
@@ -130,7 +128,7 @@ low_none b best box sides h e f w k x i m = by_test (improves (value_of b x) bes
         absurd (apart box h x e i (in_wider sides h.high x w (k x (in_wider h.low box x c.0 i) m d)))
     by_test false d = refl
 
-pub high_none : (b : Problem) (best : Option Best) (box sides : List Side) (h : Halves) → halves box ≡ Some h → Filled box → Within sides h.low → KeepsBetter b best box sides → NoneBelow b best h.high
+high_none : (b : Problem) (best : Option Best) (box sides : List Side) (h : Halves) → halves box ≡ Some h → Filled box → Within sides h.low → KeepsBetter b best box sides → NoneBelow b best h.high
 high_none b best box sides h e f w k x i m = by_test (improves (value_of b x) best) refl
   where
     by_test : (t : Bool) → improves (value_of b x) best ≡ t → t ≡ false

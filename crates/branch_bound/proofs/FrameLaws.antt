@@ -1,5 +1,5 @@
 -- Frames, over a trail that changes behind their marks.
-use Rattle.std.proofs.Common.{arith, Bool, true, false, nat_lt, length, ◌<◌, ◌≤ℤ◌, refl, ap, sym, subst, ◌∙◌, ◌≡◌, ℕ, zero, suc, ◌+◌, ◌≤◌, List, [], ◌∷◌, ◌++◌, slice_set, Option}
+use Rattle.std.proofs.Common.{arith, Bool, true, false, nat_lt, length, ◌<◌, ◌≤ℤ◌, refl, ap, sym, subst, ◌∙◌, ◌≡◌, ℕ, ◌+◌, ◌≤◌, List, [], ◌∷◌, ◌++◌, slice_set, Option}
 use Rattle.std.proofs.lemmas.Int.{ints, clamps}
 use Rattle.std.proofs.lemmas.List.{map-append}
 use Rattle.std.specs.List.{AllByRecursion}
@@ -16,10 +16,11 @@ use Rattle.branch_bound.specs.Narrowing.{Falls, KeepsBetter}
 use Rattle.propagate.specs.Trails.{KeepsMarks, sides_at}
 use Rattle.branch_bound.specs.declared.frames.Frame.{Frame}
 use Rattle.propagate.specs.declared.trail.Trail.{Trail}
+use Rattle.propagate.proofs.TightLaws.{set_same}
 use Rattle.branch_bound.proofs.Steps.{open_narrowed}
 use Rattle.branch_bound.proofs.Trees.{same_side, single_narrowed, single_set, tree_narrowed, tree_set, tree_start}
 
-pub chain_le : (low high : ℕ) (frames : List Frame) → Chain low frames high → low ≤ high
+chain_le : (low high : ℕ) (frames : List Frame) → Chain low frames high → low ≤ high
 chain_le low high [] c = c
 chain_le low high (frame ∷ frames) c = omega (arith, c.0, chain_le frame.mark high frames c.1)
 
@@ -92,11 +93,6 @@ current b best old frame sides h w k =
       single = single_narrowed sides cut j w one;
       node = subst (λ box. IsOpen b best (record { whole = box; sides = sides })) (sym same) (open_narrowed b best (node_of b.columns at frame) sides h.node w k);
     }
-
-set_same : (box : List Side) (j : ℕ) → slice_set box j (side_at box j) ≡ box
-set_same [] j = refl
-set_same (t ∷ box) zero = refl
-set_same (t ∷ box) (suc j) = ap (λ l. t ∷ l) (set_same box j)
 
 clip_same : (s : Side) → clip s s ≡ s
 clip_same s = same_side (clip s s) s (omega (arith, ints, clamps)) (omega (arith, ints, clamps))

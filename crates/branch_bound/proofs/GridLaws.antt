@@ -1,5 +1,5 @@
 -- values that are a multiple of a step apart: one below another is at least a step below it
-use Rattle.std.proofs.Common.{arith, refl, ap, sym, subst, inl, inr, ◌∙◌, ◌≡◌, ◌⊎◌, ℕ, zero, suc, ◌+◌, ◌*◌, ◌/◌, ◌<◌, ◌≤◌, ◌==◌, Bool, true, false, List, length, ℤ, pos, negsuc, ◌+ℤ◌, ◌-ℤ◌, ◌*ℤ◌, ◌≤ℤ◌, ◌<ℤ◌, int_le}
+use Rattle.std.proofs.Common.{arith, refl, ap, sym, subst, inl, inr, ◌∙◌, ◌≡◌, ℕ, zero, suc, ◌+◌, ◌*◌, ◌<◌, ◌≤◌, ◌==◌, Bool, true, false, List, length, ℤ, pos, negsuc, ◌+ℤ◌, ◌-ℤ◌, ◌*ℤ◌, ◌≤ℤ◌, int_le}
 use Rattle.std.proofs.lemmas.Int.{ints}
 use Rattle.std.proofs.Math.IntN.{*ℤ-zero, *ℤ_comm}
 use Rattle.std.specs.Int.{int_div_euclid}
@@ -14,7 +14,7 @@ use Rattle.base_words.specs.Sums.{number_at, sum_below}
 use Rattle.boxed_problem.specs.declared.parts.Side.{Side}
 use Rattle.base_words.proofs.Comparisons.{most_from_test}
 use Rattle.base_words.proofs.Quotients.{floor_is}
-use Rattle.base_words.proofs.Products.{sum_times, times_one, times_order, times_sum, zero_times}
+use Rattle.base_words.proofs.Products.{sum_times, times_one, times_order, times_sum}
 use Rattle.branch_bound.specs.ValueGrid.{AllStep, Apart, HasStep, IsGrid, IsMultiple}
 use Rattle.safe_bound.proofs.PriceLaws.{times_assoc}
 use Rattle.safe_bound.proofs.Vertex.{curve_next}

@@ -40,7 +40,7 @@ half_twice (pos n) = (omega (arith, ints), omega (arith, ints))
 half_twice (negsuc n) = (omega (arith, ints), omega (arith, ints))
 
 -- the middle lies on the side, below its upper end
-pub middle_within : (s : Side) → s.lower <ℤ s.upper → (s.lower ≤ℤ middle s) × (middle s <ℤ s.upper)
+middle_within : (s : Side) → s.lower <ℤ s.upper → (s.lower ≤ℤ middle s) × (middle s <ℤ s.upper)
 middle_within s h =
     let d = half_twice (s.lower +ℤ s.upper) in
     (omega (arith, ints, d.0, d.1), omega (arith, ints, d.0, d.1))

@@ -89,13 +89,13 @@ half_is b best new mark place half at s o =
       node = subst (λ sides. IsOpen b best (node_of b.columns sides (half_frame mark place half))) e o;
     }
 
-pub halves_are : (b : Problem) (best : Option Best) (box : List Side) (new : Trail) (mark : ℕ) (place : Place) → sides_at new mark ≡ new.sides → IsHalved b best box new.sides place → IsFrame b best new (half_frame mark place (low_half place.side)) × IsFrame b best new (half_frame mark place (high_half place.side))
+halves_are : (b : Problem) (best : Option Best) (box : List Side) (new : Trail) (mark : ℕ) (place : Place) → sides_at new mark ≡ new.sides → IsHalved b best box new.sides place → IsFrame b best new (half_frame mark place (low_half place.side)) × IsFrame b best new (half_frame mark place (high_half place.side))
 halves_are b best box new mark place at h =
     let both = tree_open b best new.sides place.column mark place.side h.column h.single h.wide h.low h.high h.node in
     (half_is b best new mark place (low_half place.side) at h.single both.0, half_is b best new mark place (high_half place.side) at h.single both.1)
 
 -- two frames with the last mark go on the stack
-pub stack_two : (b : Problem) (best : Option Best) (new : Trail) (frames : List Frame) (below top : Frame) → IsStack b best new frames → below.mark + 1 ≡ length new.marks → top.mark + 1 ≡ length new.marks → IsFrame b best new below → IsFrame b best new top →
+stack_two : (b : Problem) (best : Option Best) (new : Trail) (frames : List Frame) (below top : Frame) → IsStack b best new frames → below.mark + 1 ≡ length new.marks → top.mark + 1 ≡ length new.marks → IsFrame b best new below → IsFrame b best new top →
     IsStack b best new ((frames ++ below ∷ []) ++ top ∷ [])
 stack_two b best new frames below top s e d h k = record {
   some = s.some;
@@ -112,7 +112,7 @@ search_ended b best later old new frame frames n h k past =
     subst (λ bs. NotPast (search_all b bs (record { best = later; opened = n + 1 })) (search_all b (boxes_of b.columns old frames) q)) (sym (boxes_same b.columns 0 frame.mark old new frames k h.chain))
     (not_past-all b (boxes_of b.columns old frames) (record { best = later; opened = n + 1 }) q (frames_filled b best old frames h.all) past)
 
-pub search_halved : (b : Problem) (best : Option Best) (old new : Trail) (frame : Frame) (frames : List Frame) (mark : ℕ) (place : Place) (n : ℕ) → IsNext b best old frame frames → KeepsMarks (frame.mark + 1) old new → sides_at new mark ≡ new.sides → IsHalved b best (box_of b.columns old frame) new.sides place →
+search_halved : (b : Problem) (best : Option Best) (old new : Trail) (frame : Frame) (frames : List Frame) (mark : ℕ) (place : Place) (n : ℕ) → IsNext b best old frame frames → KeepsMarks (frame.mark + 1) old new → sides_at new mark ≡ new.sides → IsHalved b best (box_of b.columns old frame) new.sides place →
     NotPast (search_all b (boxes_of b.columns new ((frames ++ half_frame mark place (high_half place.side) ∷ []) ++ half_frame mark place (low_half place.side) ∷ [])) (record { best = best; opened = n + 1 }))
     (search_all b (boxes_of b.columns old frames) (search b (box_of b.columns old frame) (record { best = best; opened = n })))
 search_halved b best old new frame frames mark place n h k at is =
@@ -131,7 +131,7 @@ search_halved b best old new frame frames mark place n h k at is =
     subst (λ r. NotPast r (search_all b boxes q)) (sym e) (not_past-all b boxes (search b second (search b first p)) q (frames_filled b best old frames h.all) (is.search n))
 
 -- a trail on which a mark was set keeps what it kept before
-pub marked_keeps : (old at new : Trail) (m : ℕ) → KeepsMarks m old at → KeepsMarks (length at.marks) at new → KeepsMarks m old new
+marked_keeps : (old at new : Trail) (m : ℕ) → KeepsMarks m old at → KeepsMarks (length at.marks) at new → KeepsMarks m old new
 marked_keeps old at new m h k = marks_trans m (length at.marks) old at new h.more h k
 
 -- a mark was set, that remembers the sides

@@ -22,8 +22,9 @@ use Rattle.safe_bound.proofs.LeastLaws.{least_holds, single_least}
 use Rattle.boxed_problem.proofs.Listing.{corner_on}
 use Rattle.boxed_problem.proofs.Lying.{Lies, on_lies}
 use Rattle.boxed_problem.proofs.Members.{listed_on}
-use Rattle.propagate.proofs.RangeLaws.{either_left, either_right, rows_not_missed, single_met}
+use Rattle.propagate.proofs.RangeLaws.{rows_not_missed, single_met}
 use Rattle.base_words.proofs.Comparisons.{above_from_test, left_fails, not_not, right_fails, test_from_above}
+use Rattle.base_words.proofs.Booleans.{or_left, or_right}
 
 -- two searches that agree on the halves go on alike
 go_on-same : (f g : List Side → Progress → Progress) (b : Problem) (box : List Side) (o : Option Halves) (p : Progress) →
@@ -34,7 +35,7 @@ go_on-same f g b box (Some c) p h =
     ap (λ q. f c.high q) (r.0 p) ∙ r.1 (g c.low p)
 
 -- a depth above the width is enough
-pub depth_enough : (m n : ℕ) (b : Problem) (box : List Side) (p : Progress) → width box < m → width box < n → search_within m b box p ≡ search_within n b box p
+depth_enough : (m n : ℕ) (b : Problem) (box : List Side) (p : Progress) → width box < m → width box < n → search_within m b box p ≡ search_within n b box p
 unfolding search_within
 depth_enough zero n b box p h k = absurd (omega arith)
 depth_enough (suc m) zero b box p h k = absurd (omega arith)
@@ -73,7 +74,7 @@ improves_less None a v h e = absurd cc
 improves_less (Some r) a v h e = let k = above_from_test a r.value e in test_from_above v r.value (omega (arith, ints))
 
 -- the best so far stays at each point of a box that is pruned
-pub pruned_stays : (b : Problem) (box : List Side) (best : Option Best) (x : List ℤ) → Lies box x → is_pruned b box best ≡ true → better b best x ≡ best
+pruned_stays : (b : Problem) (box : List Side) (best : Option Best) (x : List ℤ) → Lies box x → is_pruned b box best ≡ true → better b best x ≡ best
 pruned_stays b box best x h e = ap (λ t. if t then Some (priced b x) else best) (not_taken (misses_one (length b.rows) b.rows b.entries box) (improves (least_value b box) best) refl refl e)
   where
     not_met : (t : Bool) → meets_all b x ≡ t → misses_one (length b.rows) b.rows b.entries box ≡ true → t ≡ false
@@ -90,15 +91,15 @@ stays b box best [] a e = refl
 stays b box best (x ∷ xs) a e = ap (λ o. best_after b o xs) (pruned_stays b box best x (on_lies box x a.0) e) ∙ stays b box best xs a.1 e
 
 -- a box may be left
-pub pruned_sound : (b : Problem) (box : List Side) (best : Option Best) → Filled box → is_pruned b box best ≡ true → best_after b best (box_points box) ≡ best
+pruned_sound : (b : Problem) (box : List Side) (best : Option Best) → Filled box → is_pruned b box best ≡ true → best_after b best (box_points box) ≡ best
 pruned_sound b box best f e = stays b box best (box_points box) (listed_on box f) e
 
 -- the point of a box of single columns that isn't pruned is a new best one
-pub single_taken : (b : Problem) (box : List Side) (best : Option Best) → Filled box → Single box → is_pruned b box best ≡ false → best_after b best (box_points box) ≡ Some (priced b (corner box))
+single_taken : (b : Problem) (box : List Side) (best : Option Best) → Filled box → Single box → is_pruned b box best ≡ false → best_after b best (box_points box) ≡ Some (priced b (corner box))
 single_taken b box best f s e =
     let lies = on_lies box (corner box) (corner_on box f) in
-    let met = single_met (length b.rows) b.rows b.entries box (corner box) s lies (either_left (misses_one (length b.rows) b.rows b.entries box) (not (improves (least_value b box) best)) e) in
-    let low = not_not (improves (least_value b box) best) (either_right (misses_one (length b.rows) b.rows b.entries box) (not (improves (least_value b box) best)) e) in
+    let met = single_met (length b.rows) b.rows b.entries box (corner box) s lies (or_left (misses_one (length b.rows) b.rows b.entries box) (not (improves (least_value b box) best)) e) in
+    let low = not_not (improves (least_value b box) best) (or_right (misses_one (length b.rows) b.rows b.entries box) (not (improves (least_value b box) best)) e) in
     let value = ap (λ v. improves v best) (sym (single_least b box s)) ∙ low in
     ap (λ ps. best_after b best ps) (points_single box s) ∙ (ap (λ t. if t && improves (value_of b (corner box)) best then Some (priced b (corner box)) else best) met ∙ ap (λ t. if t then Some (priced b (corner box)) else best) value)
 
@@ -154,7 +155,7 @@ within_opens (suc n) b box p =
     by_test false h = omega (arith, h)
 
 -- the count of opened boxes never falls
-pub search_opens : (b : Problem) (box : List Side) (p : Progress) → p.opened ≤ (search b box p).opened
+search_opens : (b : Problem) (box : List Side) (p : Progress) → p.opened ≤ (search b box p).opened
 unfolding search
 search_opens b box p = within_opens (suc (width box)) b box p
 

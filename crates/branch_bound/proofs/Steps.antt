@@ -12,11 +12,12 @@ use Rattle.boxed_problem.specs.Sides.{Within, corner}
 use Rattle.boxed_problem.specs.declared.parts.Best.{Best}
 use Rattle.boxed_problem.specs.declared.parts.Side.{Side}
 use Rattle.base_words.proofs.Comparisons.{above_from_test, below_from_test, not_not, test_from_below}
+use Rattle.base_words.proofs.Booleans.{or_left, or_right}
 use Rattle.boxed_problem.proofs.Lying.{Single}
 use Rattle.safe_bound.proofs.LeastLaws.{single_least}
 use Rattle.boxed_problem.proofs.Listing.{corner_on, in_on}
 use Rattle.boxed_problem.proofs.Lying.{corner_in, on_lies, within_trans}
-use Rattle.propagate.proofs.RangeLaws.{either_left, either_right, rows_not_missed, single_met}
+use Rattle.propagate.proofs.RangeLaws.{rows_not_missed, single_met}
 use Rattle.boxed_problem.proofs.RowTests.{feasible_from}
 use Rattle.safe_bound.proofs.LeastLaws.{least_holds}
 use Rattle.branch_bound.proofs.SearchLaws.{search_on}
@@ -58,7 +59,7 @@ keeps_trans b best box sides narrow k l x i m d = l x (k x i m d) m d
 -- the point of a single box that isn't pruned is below the best
 pub point_falls : (b : Problem) (best : Option Best) (box : List Side) → Single box → is_pruned b box best ≡ false → Falls best (Some (priced b (corner box)))
 point_falls b best box s e v d =
-    let low = not_not (improves (least_value b box) best) (either_right (misses_one (length b.rows) b.rows b.entries box) (not (improves (least_value b box) best)) e) in
+    let low = not_not (improves (least_value b box) best) (or_right (misses_one (length b.rows) b.rows b.entries box) (not (improves (least_value b box) best)) e) in
     lower best v (value_of b (corner box)) (below_from_test v (value_of b (corner box)) d) (ap (λ z. improves z best) (sym (single_least b box s)) ∙ low)
   where
     lower : (best : Option Best) (v w : ℤ) → v <ℤ w → improves w best ≡ true → improves v best ≡ true
@@ -107,4 +108,4 @@ open_narrowed b best node sides o w k = record {
 pub found_point : (b : Problem) (best : Option Best) (box : List Side) → Within box b.columns → Single box → is_pruned b box best ≡ false → IsFound b (Some (priced b (corner box)))
 found_point b best box w s l =
     let lies = on_lies box (corner box) (corner_on box w.filled) in
-    (feasible_from b (corner box) (corner_in box b.columns w) (single_met (length b.rows) b.rows b.entries box (corner box) s lies (either_left (misses_one (length b.rows) b.rows b.entries box) (not (improves (least_value b box) best)) l)), refl)
+    (feasible_from b (corner box) (corner_in box b.columns w) (single_met (length b.rows) b.rows b.entries box (corner box) s lies (or_left (misses_one (length b.rows) b.rows b.entries box) (not (improves (least_value b box) best)) l)), refl)

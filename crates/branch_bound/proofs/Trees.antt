@@ -62,19 +62,19 @@ tree_set (t ∷ columns) [] j a s = refl
 tree_set (t ∷ columns) (n ∷ sides) zero a s = refl
 tree_set (t ∷ columns) (n ∷ sides) (suc j) a s = ap (λ l. n ∷ l) (tree_set columns sides j a s)
 
-pub tree_put : (columns sides : List Side) (j : ℕ) (a c : Side) → slice_set (tree_box columns sides j a) j c ≡ tree_box columns sides j c
+tree_put : (columns sides : List Side) (j : ℕ) (a c : Side) → slice_set (tree_box columns sides j a) j c ≡ tree_box columns sides j c
 tree_put [] sides j a c = refl
 tree_put (t ∷ columns) [] j a c = refl
 tree_put (t ∷ columns) (n ∷ sides) zero a c = refl
 tree_put (t ∷ columns) (n ∷ sides) (suc j) a c = ap (λ l. n ∷ l) (tree_put columns sides j a c)
 
-pub tree_long : (columns sides : List Side) (j : ℕ) (a : Side) → length sides ≡ length columns → length (tree_box columns sides j a) ≡ length columns
+tree_long : (columns sides : List Side) (j : ℕ) (a : Side) → length sides ≡ length columns → length (tree_box columns sides j a) ≡ length columns
 tree_long [] sides j a e = refl
 tree_long (t ∷ columns) [] j a e = absurd (omega (arith, e))
 tree_long (t ∷ columns) (n ∷ sides) zero a e = refl
 tree_long (t ∷ columns) (n ∷ sides) (suc j) a e = ap suc (tree_long columns sides j a (omega (arith, e)))
 
-pub tree_there : (columns sides : List Side) (j : ℕ) (a : Side) → length sides ≡ length columns → j < length columns → side_at (tree_box columns sides j a) j ≡ a
+tree_there : (columns sides : List Side) (j : ℕ) (a : Side) → length sides ≡ length columns → j < length columns → side_at (tree_box columns sides j a) j ≡ a
 tree_there [] sides j a e l = absurd (omega arith)
 tree_there (t ∷ columns) [] j a e l = absurd (omega (arith, e))
 tree_there (t ∷ columns) (n ∷ sides) zero a e l = refl
@@ -87,7 +87,7 @@ tree_start (t ∷ columns) [] e = absurd (omega (arith, e))
 tree_start (t ∷ columns) (n ∷ sides) e = refl
 
 -- where the column has its side already, the next column is next
-pub tree_next : (columns sides : List Side) (j : ℕ) (a : Side) → length sides ≡ length columns → j < length columns → a ≡ side_at sides j → tree_box columns sides j a ≡ tree_box columns sides (suc j) (side_at columns (suc j))
+tree_next : (columns sides : List Side) (j : ℕ) (a : Side) → length sides ≡ length columns → j < length columns → a ≡ side_at sides j → tree_box columns sides j a ≡ tree_box columns sides (suc j) (side_at columns (suc j))
 tree_next [] sides j a e l d = absurd (omega arith)
 tree_next (t ∷ columns) [] j a e l d = absurd (omega (arith, e))
 tree_next (t ∷ columns) (n ∷ sides) zero a e l d = ap (λ s. s ∷ columns) d ∙ ap (λ r. n ∷ r) (sym (tree_start columns sides (omega (arith, e))))

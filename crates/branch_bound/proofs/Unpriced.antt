@@ -1,11 +1,10 @@
 -- the prices 0 over the scale 1 fit each problem
-use Rattle.std.proofs.Common.{arith, refl, ap, sym, ◌∙◌, ◌≡◌, ℕ, zero, suc, ◌+◌, ◌*◌, ◌^◌, ◌<◌, ◌≤◌, length, pos, unsigned_abs}
+use Rattle.std.proofs.Common.{arith, refl, ap, ◌∙◌, ◌≡◌, ℕ, zero, suc, ◌*◌, ◌<◌, length, pos, unsigned_abs}
 use Rattle.std.proofs.lemmas.Int.{ints}
-use Rattle.boxed_problem.specs.Data.{Problem, problem_of}
-use Rattle.boxed_problem.specs.BoxedFacts.{limits_at, row_size, value_size}
-use Rattle.boxed_problem.specs.PriceFit.{FitsPrices, HasSign, price_part}
+use Rattle.boxed_problem.specs.Data.{problem_of}
+use Rattle.boxed_problem.specs.BoxedFacts.{row_size, value_size}
+use Rattle.boxed_problem.specs.PriceFit.{FitsPrices, price_part}
 use Rattle.base_words.specs.Sums.{number_at, size_below}
-use Rattle.boxed_problem.specs.declared.parts.Limits.{Limits}
 use Rattle.boxed_problem.specs.declared.parts.Prices.{Prices}
 use Rattle.boxed_problem.specs.declared.problem.Boxed.{Boxed}
 

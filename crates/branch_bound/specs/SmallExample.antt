@@ -1,6 +1,6 @@
 -- the worked example SMALL: two columns from 0 to 10 with the costs 10 and 30, and one row that
 -- asks for a need
-use Rattle.std.specs.Prelude.{List, [], ◌∷◌, ℤ, pos, Some, None}
+use Rattle.std.specs.Prelude.{[], ◌∷◌, ℤ, pos, Some, None}
 use Rattle.boxed_problem.specs.Data.{Problem}
 use Rattle.boxed_problem.specs.declared.parts.Side.{Side}
 

@@ -45,5 +45,5 @@ pub max_of_capped : (a b x y : ℕ) → x ≡ capped a → y ≡ capped b → ma
 max_of_capped a b x y p q = omega (arith, p, q)
 
 -- a number that isn't above the cap
-pub own_capped : (a : ℕ) → a ≤ 2 ^ 127 → a ≡ capped a
+own_capped : (a : ℕ) → a ≤ 2 ^ 127 → a ≡ capped a
 own_capped a h = omega (arith, h)

@@ -13,7 +13,7 @@ use Rattle.smps_words.specs.Outcomes.{Outcome, judged, folded, seen_by, answer_o
 use Rattle.smps_words.specs.Outcomes.Outcome.{Faulty, Ended, Endless}
 use Rattle.smps_words.specs.TextLines.{TextLine, text_line, text_lines, last_number}
 use Rattle.core_lines.proofs.NextLaw.{goes_on}
-use Rattle.core_lines.specs.Lines.{before_of, line_fault, is_end, next}
+use Rattle.core_lines.specs.Lines.{before_of, line_fault, is_end_header, next}
 use Rattle.core_lines.specs.Meaning.{outcome_of, said_by, said_by_steps, Fails, Gives, meaning, said_by_read}
 use Rattle.core_lines.specs.Parts.{Before}
 use Rattle.core_lines.specs.Steps.{Refuses}
@@ -28,14 +28,14 @@ answers_are last kind (Ended before) = refl
 answers_are last kind Endless = refl
 
 pub steps_are : (lines : List TextLine) → said_by_steps lines ≡ said_by lines
-steps_are lines = ap (answer_of (λ (b : Before). b) (last_number lines) kinds.NoEnd) (fold_is before_of line_fault is_end next goes_on lines) ∙ answers_are (last_number lines) kinds.NoEnd (outcome_of lines)
+steps_are lines = ap (answer_of (λ (b : Before). b) (last_number lines) kinds.NoEnd) (fold_is before_of line_fault is_end_header next goes_on lines) ∙ answers_are (last_number lines) kinds.NoEnd (outcome_of lines)
 
 -- the fold from a line on
-pub one_on : (bytes : List ℕ) (lines : List Line) (i : ℕ) (line : Line) (b : Before) → i < length lines → line ≡ get_or lines i line → folded line_fault is_end next b (text_lines bytes (drop i lines)) ≡ judged (line_fault b (text_line bytes line)) (is_end (text_line bytes line)) (text_line bytes line) (next b (text_line bytes line)) (folded line_fault is_end next (next b (text_line bytes line)) (text_lines bytes (drop (i + 1) lines)))
-one_on bytes lines i line b lt at = ap (λ (l : List Line). folded line_fault is_end next b (text_lines bytes l)) (drop_more lines i line lt ∙ ap (λ (l : Line). l ∷ drop (i + 1) lines) (sym at))
+pub one_on : (bytes : List ℕ) (lines : List Line) (i : ℕ) (line : Line) (b : Before) → i < length lines → line ≡ get_or lines i line → folded line_fault is_end_header next b (text_lines bytes (drop i lines)) ≡ judged (line_fault b (text_line bytes line)) (is_end_header (text_line bytes line)) (text_line bytes line) (next b (text_line bytes line)) (folded line_fault is_end_header next (next b (text_line bytes line)) (text_lines bytes (drop (i + 1) lines)))
+one_on bytes lines i line b lt at = ap (λ (l : List Line). folded line_fault is_end_header next b (text_lines bytes l)) (drop_more lines i line lt ∙ ap (λ (l : Line). l ∷ drop (i + 1) lines) (sym at))
 
 -- a line that is refused, among the others
-pub refused : (lines : List TextLine) (line : TextLine) (after : Before) (later : Outcome TextLine CoreKind Before) (ends : Bool) (fault : Option CoreKind) (asked : Type 0) (f : CoreFault) → asked → Refuses fault line.number f → folded line_fault is_end next (before_of []) lines ≡ judged fault ends line after later → Fails asked f (said_by_steps lines)
+pub refused : (lines : List TextLine) (line : TextLine) (after : Before) (later : Outcome TextLine CoreKind Before) (ends : Bool) (fault : Option CoreKind) (asked : Type 0) (f : CoreFault) → asked → Refuses fault line.number f → folded line_fault is_end_header next (before_of []) lines ≡ judged fault ends line after later → Fails asked f (said_by_steps lines)
 refused lines line after later ends fault asked faults.Memory may refuses is = may
 refused lines line after later ends fault asked (faults.At number kind) may refuses is =
     ap (answer_of (λ (b : Before). b) (last_number lines) kinds.NoEnd) (is ∙ ap (λ f. judged f ends line after later) refuses.1) ∙ ap (λ (n : ℕ). Err (n, kind)) (sym refuses.0)
@@ -48,9 +48,9 @@ pub some_before : (lines : List Line) (i : ℕ) → i < length lines → AreSome
 some_before lines i h = omega (arith, h)
 
 -- no line is left
-pub endless : (bytes : List ℕ) (lines : List Line) (i n : ℕ) (b : Before) → length lines ≤ i → folded line_fault is_end next (before_of []) (text_lines bytes lines) ≡ folded line_fault is_end next b (text_lines bytes (drop i lines)) → n ≡ last_number (text_lines bytes lines) → said_by_steps (text_lines bytes lines) ≡ Err (n, kinds.NoEnd)
+pub endless : (bytes : List ℕ) (lines : List Line) (i n : ℕ) (b : Before) → length lines ≤ i → folded line_fault is_end_header next (before_of []) (text_lines bytes lines) ≡ folded line_fault is_end_header next b (text_lines bytes (drop i lines)) → n ≡ last_number (text_lines bytes lines) → said_by_steps (text_lines bytes lines) ≡ Err (n, kinds.NoEnd)
 endless bytes lines i n b le is number =
-    ap (answer_of (λ (s : Before). s) (last_number (text_lines bytes lines)) kinds.NoEnd) (is ∙ ap (λ (l : List Line). folded line_fault is_end next b (text_lines bytes l)) (none_left lines i le))
+    ap (answer_of (λ (s : Before). s) (last_number (text_lines bytes lines)) kinds.NoEnd) (is ∙ ap (λ (l : List Line). folded line_fault is_end_header next b (text_lines bytes l)) (none_left lines i le))
     ∙ ap (λ (m : ℕ). Err (m, kinds.NoEnd)) (sym number)
 
 -- what the lines of a file come to is what the file says

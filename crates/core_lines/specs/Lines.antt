@@ -129,5 +129,5 @@ abbrev pub line_fault : Before → TextLine → Option CoreKind
 line_fault b line = if line.header then header_fault b line else data_fault b.headers.section b line
 
 -- the header ENDATA ends the file
-abbrev pub is_end : TextLine → Bool
-is_end line = line.header && is_ending (section_of_word line)
+abbrev pub is_end_header : TextLine → Bool
+is_end_header line = line.header && is_ending (section_of_word line)

@@ -6,7 +6,7 @@ use Rattle.line_core.specs.declared.line_list.LineFault.{LineFault}
 use Rattle.line_core.specs.declared.line_list.LineFault.TheVariants.{NotAscii, TooLong, Memory}
 use Rattle.smps_words.specs.Outcomes.{Outcome, outcome, folded, answer_of}
 use Rattle.smps_words.specs.TextLines.{TextLine, text_lines, last_number}
-use Rattle.core_lines.specs.Lines.{before_of, line_fault, is_end, next}
+use Rattle.core_lines.specs.Lines.{before_of, line_fault, is_end_header, next}
 use Rattle.core_lines.specs.Parts.{Before}
 use Rattle.core_lines.specs.States.{before_in}
 use Rattle.core_lines.specs.declared.kinds.CoreFault.{CoreFault}
@@ -21,7 +21,7 @@ fault_behind before line = line_fault (before_of before) line
 
 -- the first line with a fault, or all lines up to ENDATA, or neither
 abbrev pub outcome_of : List TextLine → Outcome TextLine CoreKind (List TextLine)
-outcome_of lines = outcome fault_behind is_end [] lines
+outcome_of lines = outcome fault_behind is_end_header [] lines
 
 -- what the lines up to ENDATA say, or the number and the kind of the first fault
 abbrev pub said_by : List TextLine → Result Before (ℕ × CoreKind)
@@ -30,7 +30,7 @@ said_by lines = answer_of before_of (last_number lines) kinds.NoEnd (outcome_of 
 -- the same by a state that goes from line to line, which is how the reader works
 abbrev pub said_by_steps : List TextLine → Result Before (ℕ × CoreKind)
 said_by_steps lines = answer_of (λ b. b) (last_number lines) kinds.NoEnd
-    (folded line_fault is_end next (before_of []) lines)
+    (folded line_fault is_end_header next (before_of []) lines)
 
 -- the same of the lines of a file, of which a fault comes first
 abbrev pub said_by_read : List ℕ → Result (List Line) LineFault → Result Before (ℕ × CoreKind)

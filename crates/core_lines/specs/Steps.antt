@@ -2,7 +2,7 @@
 use Rattle.std.specs.Prelude.{◌≡◌, ℕ, Bool, ◌||◌, Option, Some, None, Result, MatchResult}
 use Rattle.smps_words.specs.TextLines.{TextLine}
 use Rattle.core_lines.specs.Headers.{is_rights, is_ranges, is_bounds}
-use Rattle.core_lines.specs.Lines.{is_end, line_fault, next}
+use Rattle.core_lines.specs.Lines.{is_end_header, line_fault, next}
 use Rattle.core_lines.specs.Parts.{HeadersSaid, Before}
 use Rattle.core_lines.specs.States.{MayAsk}
 use Rattle.core_lines.specs.declared.kinds.CoreFault.{CoreFault}
@@ -34,5 +34,5 @@ Refuses fault number (faults.At line kind) = (line ≡ number) × (fault ≡ Som
 -- a line without a fault is taken up, with whether it ends the file
 abbrev pub Steps : Before → TextLine → Result Bool CoreFault → Before → Type 0
 Steps b line result after = MatchResult result
-    (λ ended. (line_fault b line ≡ None) × (ended ≡ is_end line) × (after ≡ next b line))
+    (λ ended. (line_fault b line ≡ None) × (ended ≡ is_end_header line) × (after ≡ next b line))
     (Refuses (line_fault b line) line.number)

@@ -16,7 +16,8 @@ use crate::growing::grow_marks;
 use crate::kinds::{CoreKind, Stop};
 use crate::pairs::{RowPair, is_same_row, pair_of};
 use crate::parts::{ColumnPart, RowPart};
-use smps_words::{FileLine, same};
+use smps_words::FileLine;
+use wide_num::same;
 
 /// The greatest number of columns.
 const MAX_COLUMNS: usize = 5000;

@@ -1,6 +1,6 @@
-ghost use Rattle.std.specs.Prelude.{◌≡◌, ℕ, []};
+ghost use Rattle.std.specs.Prelude.{◌≡◌, []};
 ghost use Rattle.smps_words.specs.Memory.{MayRefuse, AreSome};
-ghost use Rattle.smps_words.specs.TextLines.{last_number, text_lines};
+ghost use Rattle.smps_words.specs.TextLines.{text_lines};
 ghost use Rattle.core_lines.specs.Headers.{is_rights};
 ghost use Rattle.core_lines.specs.Lines.{before_of, bounds_of, columns_of, rows_of, sides_of};
 ghost use Rattle.core_lines.specs.Meaning.{Gives, meaning, said_by, said_by_steps};
@@ -13,7 +13,7 @@ use crate::state::State;
 use crate::steps::step;
 use crate::words::Section;
 use line_core::{Line, LineFault, Names, lines};
-use smps_words::FileLine;
+use smps_words::{FileLine, last_number};
 use std::alloc::Global;
 use wide_num::List;
 
@@ -79,16 +79,6 @@ fn start(alloc: Global) -> State
     }
 }
 
-// The number of the last line, 0 where there is none.
-fn last_number(lines: &[Line]) -> u64
-    ensures { (bytes : List ℕ) → result ≡ last_number (text_lines bytes lines.now) }
-{
-    match lines.last() {
-        Some(line) => line.number,
-        None => 0,
-    }
-}
-
 // What the lines say, by a state that goes from line to line.
 fn read_by_steps(alloc: Global, bytes: &[u8], lines: &[Line]) -> Result<State, CoreFault>
     ensures { Gives (AreSome lines.now) result (said_by_steps (text_lines bytes.now lines.now)) }
@@ -103,7 +93,7 @@ fn read_by_steps(alloc: Global, bytes: &[u8], lines: &[Line]) -> Result<State, C
         }
     }
     Err(CoreFault::At {
-        line: last_number(lines),
+        line: last_number(bytes, lines),
         kind: CoreKind::NoEnd,
     })
 }

@@ -4,9 +4,8 @@ ghost use Rattle.core_lines.specs.SideLines.{is_used};
 ghost use Rattle.core_lines.specs.States.{Keeps};
 
 use crate::kinds::Stop;
-use smps_words::same;
 use std::alloc::Global;
-use wide_num::{List, Text};
+use wide_num::{List, Text, same};
 
 /// Whether a line with this set name is of the used set.
 pub fn is_used(set: &Option<Text>, name: &[u8]) -> bool

@@ -3,7 +3,7 @@ ghost use Rattle.smps_words.specs.TextLines.{text_of};
 ghost use Rattle.core_lines.specs.Boxes.{has_empty_box};
 ghost use Rattle.core_lines.specs.HeaderParts.{headers_as};
 ghost use Rattle.core_lines.specs.Headers.{header_fault, is_ending, section_of_word};
-ghost use Rattle.core_lines.specs.Lines.{is_end, line_fault, next};
+ghost use Rattle.core_lines.specs.Lines.{is_end_header, line_fault, next};
 ghost use Rattle.core_lines.specs.States.{KeepsAs, Takes, TakesAs, before_in};
 ghost use Rattle.core_lines.specs.Steps.{Steps, fault_at, with_section};
 
@@ -81,7 +81,7 @@ fn headers_with(headers: Headers, section: Section) -> Headers
 fn take_header(alloc: Global, state: &mut State, line: &FileLine<'_>) -> Result<bool, Stop>
     requires { (text_of line.now).header ≡ true }
     ensures { TakesAs (line_fault (before_in state.old) (text_of line.now)) result
-        (λ ended. (ended ≡ is_end (text_of line.now))
+        (λ ended. (ended ≡ is_end_header (text_of line.now))
         × (before_in state.new ≡ next (before_in state.old) (text_of line.now))) }
 {
     match section_of(alloc, state, line) {

@@ -3,7 +3,8 @@ ghost use Rattle.core_lines.specs.Words.{section_named, row_kind_named, bound_ki
 
 use crate::kinds::CoreKind;
 use dec_core::DecFault;
-use smps_words::{RowKind, same};
+use smps_words::RowKind;
+use wide_num::same;
 
 /// The sections of a core file, each begun by its header; `Start` before the
 /// first header, and `Other` for a word that is no header.

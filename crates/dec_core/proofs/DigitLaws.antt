@@ -11,11 +11,11 @@ use Rattle.std.proofs.lemmas.List.Sums.{AllPass-from_list_all}
 use Rattle.std.proofs.lemmas.Str.{digit_value_digit}
 
 -- an item of a row of digits is a digit
-pub digit_range : (byte : ℕ) → is_ascii_digit byte ≡ true → IsInRange 48 57 byte
+digit_range : (byte : ℕ) → is_ascii_digit byte ≡ true → IsInRange 48 57 byte
 digit_range byte h = grind (arith, nat_tests)
 
 -- what an item of a row of digits is worth
-pub digit_at : (ds : List ℕ) (i : ℕ) → list_all is_ascii_digit ds ≡ true → i < length ds → digit_value (get_or ds i 0) + 48 ≡ get_or ds i 0
+digit_at : (ds : List ℕ) (i : ℕ) → list_all is_ascii_digit ds ≡ true → i < length ds → digit_value (get_or ds i 0) + 48 ≡ get_or ds i 0
 digit_at ds i h l = digit_value_digit (get_or ds i 0) (digit_range (get_or ds i 0) (AllPass-from_list_all is_ascii_digit ds h i 0 l))
 
 -- one digit more
@@ -25,7 +25,7 @@ digits_more ds i h l =
     omega (arith, digits_value_more 10 ds i l)
 
 -- a cap that is taken at each step
-pub capped_more : (n d c : ℕ) → min (min n c * 10 + d) c ≡ min (n * 10 + d) c
+capped_more : (n d c : ℕ) → min (min n c * 10 + d) c ≡ min (n * 10 + d) c
 capped_more n d c = omega arith
 
 -- one digit more behind others

@@ -10,7 +10,7 @@ use Rattle.dec_core.specs.Stripped.{max_significand, max_exponent}
 use Rattle.dec_core.proofs.Powers.{far_up}
 
 -- the limits see numbers above them as one
-pub limits_agree : (n : Bool) (m p k q : ℕ) → (p ≤ 9 → q ≡ p) → (9 < p → 9 < q) → (m ≤ 10 ^ 36 → k ≡ m) → (10 ^ 36 < m → 10 ^ 36 < k) → within_limits n m p ≡ within_limits n k q
+limits_agree : (n : Bool) (m p k q : ℕ) → (p ≤ 9 → q ≡ p) → (9 < p → 9 < q) → (m ≤ 10 ^ 36 → k ≡ m) → (10 ^ 36 < m → 10 ^ 36 < k) → within_limits n m p ≡ within_limits n k q
 limits_agree n m p k q a b c d = grind (arith, nat_tests)
 
 -- equal powers of ten, or two that are far up, leave products that the limits see as one

@@ -11,6 +11,7 @@ mod significand;
 
 pub use decimal::{DecFault, Decimal};
 pub use law::one_value;
+pub use parts::are_digits;
 pub use reading::read;
 pub use scale::{common, scaled};
 

@@ -35,7 +35,8 @@ pub fn unsigned_text(text: &[u8]) -> &[u8]
     }
 }
 
-fn are_digits(text: &[u8]) -> bool
+/// Whether all bytes of a text are digits.
+pub fn are_digits(text: &[u8]) -> bool
     ensures { result ≡ list_all is_ascii_digit text.now }
 {
     text.iter().all(|byte| byte.is_ascii_digit())

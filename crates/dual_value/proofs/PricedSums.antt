@@ -1,6 +1,6 @@
 -- Costs with prices fit; sums of least values with prices, and why there is none.
 
-use Rattle.std.proofs.Common.{arith, refl, sym, ap, subst, ◌≡◌, ℕ, ◌+◌, ◌*◌, ◌^◌, ◌<◌, ◌≤◌, nat_lt, Bool, true, false, length, ℤ, pos, ◌+ℤ◌, unsigned_abs, FitsSigned, Option, Some, None, if◌then◌else◌}
+use Rattle.std.proofs.Common.{arith, refl, ap, ◌≡◌, ℕ, ◌+◌, ◌*◌, ◌^◌, ◌<◌, ◌≤◌, nat_lt, Bool, true, false, length, ℤ, pos, ◌+ℤ◌, unsigned_abs, FitsSigned, Some, if◌then◌else◌}
 use Rattle.std.proofs.lemmas.Int.{ints}
 use Rattle.std.specs.Int.{w128}
 use Rattle.base_words.specs.Sums.{number_at}

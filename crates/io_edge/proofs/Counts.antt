@@ -8,5 +8,5 @@ count_never_falls before after None same = omega arith
 count_never_falls before after (Some fault) rises = rises.0
 
 -- a count that rose at some time rose in the whole time
-pub rises_within : (start before after end : ℕ) → start ≤ before → Rises before after → after ≤ end → Rises start end
+rises_within : (start before after end : ℕ) → start ≤ before → Rises before after → after ≤ end → Rises start end
 rises_within start before after end begun rises ended = (omega arith, omega (arith, rises.0, rises.1))

@@ -8,11 +8,11 @@ use Rattle.std.specs.Str.{bytes_eq}
 use Rattle.io_edge.specs.Shelves.{FileTable}
 
 -- the name holds what was stored under it
-pub get-insert_same : (table : FileTable) (name bytes : List ℕ) → get (insert table name bytes) name ≡ Some bytes
+get-insert_same : (table : FileTable) (name bytes : List ℕ) → get (insert table name bytes) name ≡ Some bytes
 get-insert_same table name bytes = grind (gets, rules)
 
 -- every other name holds what it held
-pub get-insert_other : (table : FileTable) (name bytes other : List ℕ) → other ≢ name → get (insert table name bytes) other ≡ get table other
+get-insert_other : (table : FileTable) (name bytes other : List ℕ) → other ≢ name → get (insert table name bytes) other ≡ get table other
 get-insert_other table name bytes other apart =
     let decided = bytes_eq-Decides other name in
     let differs : bytes_eq other name ≡ false = grind (rules, decided.0, apart) in

@@ -10,12 +10,12 @@ use Rattle.io_edge.specs.declared.faults.EdgeFault.TheVariants as edge
 use Rattle.io_edge.specs.Sinks.{appended, AppendsFront, PutLeaves}
 
 -- to append nothing changes nothing
-pub appended-nothing : (old : Option (List ℕ)) → appended old [] ≡ old
+appended-nothing : (old : Option (List ℕ)) → appended old [] ≡ old
 appended-nothing None = refl
 appended-nothing (Some bytes) = ap Some (append-nil bytes)
 
 -- to append twice is to append the concatenation
-pub appended-appended : (old : Option (List ℕ)) (first second : List ℕ) → appended (appended old first) second ≡ appended old (first ++ second)
+appended-appended : (old : Option (List ℕ)) (first second : List ℕ) → appended (appended old first) second ≡ appended old (first ++ second)
 appended-appended None first second = refl
 appended-appended (Some bytes) first second = ap Some (append_assoc bytes first second)
 
@@ -25,7 +25,7 @@ appended_twice old mid new first second begun ended =
     ended ∙ ap (λ w. appended w second) begun ∙ appended-appended old first second
 
 -- a text that begins with what was appended
-pub front_of_split : (old new : Option (List ℕ)) (front rest text : List ℕ) → text ≡ front ++ rest → new ≡ appended old front → AppendsFront old new text
+front_of_split : (old new : Option (List ℕ)) (front rest text : List ℕ) → text ≡ front ++ rest → new ≡ appended old front → AppendsFront old new text
 front_of_split old new front rest text split written =
     (length front, written ∙ ap (appended old) (sym (ap (take (length front)) split ∙ take-append_seam front rest)))
 
@@ -34,7 +34,7 @@ pub front_whole : (old new : Option (List ℕ)) (text : List ℕ) → new ≡ ap
 front_whole old new text written = front_of_split old new text [] text (sym (append-nil text)) written
 
 -- nothing is a front of every text
-pub front_nothing : (old new : Option (List ℕ)) (text : List ℕ) → new ≡ old → AppendsFront old new text
+front_nothing : (old new : Option (List ℕ)) (text : List ℕ) → new ≡ old → AppendsFront old new text
 front_nothing old new text kept = (0, kept ∙ sym (appended-nothing old))
 
 -- a front of a front of a text is a front of the text
@@ -56,30 +56,30 @@ front_after old mid new piece rest begun (n, written) =
     (appended_twice old mid new piece (take n rest) begun written)
 
 -- whatever a put answers, a front of its piece was appended
-pub front_of_put : (old new : Option (List ℕ)) (piece : List ℕ) (answer : Result (Unit {0}) EdgeFault) → PutLeaves old new piece answer → AppendsFront old new piece
+front_of_put : (old new : Option (List ℕ)) (piece : List ℕ) (answer : Result (Unit {0}) EdgeFault) → PutLeaves old new piece answer → AppendsFront old new piece
 front_of_put old new piece (Ok _) written = front_whole old new piece written
 front_of_put old new piece (Err edge.Failed) front = front
 front_of_put old new piece (Err edge.Memory) kept = front_nothing old new piece kept
 
 -- whatever a put after the text so far answers, a front of the whole text was appended
-pub front_of_next_put : (old mid new : Option (List ℕ)) (so_far piece rest text : List ℕ) (answer : Result (Unit {0}) EdgeFault) → text ≡ (so_far ++ piece) ++ rest → mid ≡ appended old so_far → PutLeaves mid new piece answer → AppendsFront old new text
+front_of_next_put : (old mid new : Option (List ℕ)) (so_far piece rest text : List ℕ) (answer : Result (Unit {0}) EdgeFault) → text ≡ (so_far ++ piece) ++ rest → mid ≡ appended old so_far → PutLeaves mid new piece answer → AppendsFront old new text
 front_of_next_put old mid new so_far piece rest text answer split begun left =
     front_of_front old new (so_far ++ piece) rest text split
     (front_after old mid new so_far piece begun (front_of_put mid new piece answer left))
 
 -- the texts of the first items and then of the others are the text of all
-pub text_split : {X : Type 0} (text_of : X → List ℕ) (items : List X) (n : ℕ) → flat_map text_of items ≡ flat_map text_of (take n items) ++ flat_map text_of (drop n items)
+text_split : {X : Type 0} (text_of : X → List ℕ) (items : List X) (n : ℕ) → flat_map text_of items ≡ flat_map text_of (take n items) ++ flat_map text_of (drop n items)
 text_split text_of items n =
     ap (flat_map text_of) (sym (take-append-drop n items)) ∙ flat_map-append text_of (take n items) (drop n items)
 
 -- the text of the first items is a front of the text of all: where a writer ends between two items
-pub front_of_items : {X : Type 0} (text_of : X → List ℕ) (items : List X) (n : ℕ) (old new : Option (List ℕ)) → new ≡ appended old (flat_map text_of (take n items)) → AppendsFront old new (flat_map text_of items)
+front_of_items : {X : Type 0} (text_of : X → List ℕ) (items : List X) (n : ℕ) (old new : Option (List ℕ)) → new ≡ appended old (flat_map text_of (take n items)) → AppendsFront old new (flat_map text_of items)
 front_of_items text_of items n old new written =
     front_of_split old new (flat_map text_of (take n items)) (flat_map text_of (drop n items)) (flat_map text_of items)
     (text_split text_of items n) written
 
 -- the text of the first items, one more put to it
-pub text_more : {X : Type 0} (text_of : X → List ℕ) (items : List X) (i : ℕ) (d : X) → i < length items → flat_map text_of (take (i + 1) items) ≡ flat_map text_of (take i items) ++ text_of (get_or items i d)
+text_more : {X : Type 0} (text_of : X → List ℕ) (items : List X) (i : ℕ) (d : X) → i < length items → flat_map text_of (take (i + 1) items) ≡ flat_map text_of (take i items) ++ text_of (get_or items i d)
 text_more text_of items i d inside =
     ap (flat_map text_of) (take_more items i d inside)
     ∙ flat_map-append text_of (take i items) (get_or items i d ∷ [])

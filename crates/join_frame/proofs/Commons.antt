@@ -1,5 +1,5 @@
 -- The common number of places of numbers that are picked one after another.
-use Rattle.std.proofs.Common.{arith, refl, ◌≡◌, ◌<◌, ◌+◌, ◌==◌, ℕ, zero, suc, Bool, true, false, not, ◌&&◌, if◌then◌else◌, max, ap, ◌∙◌, sym, subst, length, List, [], ◌∷◌, ◌++◌, map, get_or, take, append-nil, append_assoc, Option, Some, None, add-one}
+use Rattle.std.proofs.Common.{arith, refl, ◌≡◌, ◌<◌, ◌+◌, ◌==◌, ℕ, Bool, true, false, not, ◌&&◌, if◌then◌else◌, max, ap, ◌∙◌, sym, subst, length, List, [], ◌∷◌, ◌++◌, map, get_or, take, append-nil, append_assoc, Option, Some, None, add-one}
 use Rattle.std.specs.Prelude.{IfSome}
 use Rattle.std.specs.List.{filter, fold, range_with_len}
 use Rattle.std.proofs.lemmas.List.{get_or-map, length-map, map-append, take_more}
@@ -26,7 +26,7 @@ common_from [] a d = refl
 common_from (x ∷ xs) a d = common_from xs (max a x.places) d
 
 -- one number more
-pub common_push : (xs : List Decimal) (d : Decimal) → common_places (xs ++ d ∷ []) ≡ max (common_places xs) d.places
+common_push : (xs : List Decimal) (d : Decimal) → common_places (xs ++ d ∷ []) ≡ max (common_places xs) d.places
 common_push xs d = common_from xs 0 d
 
 module _ {X : Type 0} (p : X → Bool) (v : X → Decimal) (front : List Decimal) where
@@ -34,7 +34,7 @@ module _ {X : Type 0} (p : X → Bool) (v : X → Decimal) (front : List Decimal
   abbrev pub picked : List X → ℕ
   picked xs = common_places (front ++ map v (filter p xs))
 
-  pub picked_more : (xs : List X) (x : X) (b : Bool) → p x ≡ b → picked (xs ++ x ∷ []) ≡ (if b then max (picked xs) (v x).places else picked xs)
+  picked_more : (xs : List X) (x : X) (b : Bool) → p x ≡ b → picked (xs ++ x ∷ []) ≡ (if b then max (picked xs) (v x).places else picked xs)
   picked_more xs x true h =
       let one : filter p (x ∷ []) ≡ x ∷ [] = ap (λ t. if t then x ∷ [] else []) h in
       ap (λ l. common_places (front ++ map v l)) (filter-append p xs (x ∷ []) ∙ ap (λ l. filter p xs ++ l) one)
@@ -46,7 +46,7 @@ module _ {X : Type 0} (p : X → Bool) (v : X → Decimal) (front : List Decimal
       ap (λ l. common_places (front ++ map v l)) (filter-append p xs (x ∷ []) ∙ (ap (λ l. filter p xs ++ l) none ∙ append-nil (filter p xs)))
 
   -- one item more of a list
-  pub picked_next : (xs : List X) (k : ℕ) (x : X) (before after : ℕ) (b : Bool) (d : Decimal) → k < length xs → x ≡ get_or xs k x → before ≡ picked (take k xs) → b ≡ p x → d ≡ v x → after ≡ (if b then max before d.places else before) → after ≡ picked (take (k + 1) xs)
+  picked_next : (xs : List X) (k : ℕ) (x : X) (before after : ℕ) (b : Bool) (d : Decimal) → k < length xs → x ≡ get_or xs k x → before ≡ picked (take k xs) → b ≡ p x → d ≡ v x → after ≡ (if b then max before d.places else before) → after ≡ picked (take (k + 1) xs)
   picked_next xs k x before after b d lt at was passes is step =
       step
       ∙ (ap (λ n. if b then max n d.places else n) was

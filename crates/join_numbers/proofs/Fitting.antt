@@ -1,22 +1,21 @@
 -- Numbers that leave 128 bits are large, and so are limits made of them.
-use Rattle.std.proofs.Common.{arith, refl, sym, ap, subst, ◌∙◌, ◌≡◌, ℕ, zero, suc, ◌+◌, ◌-◌, ◌*◌, ◌^◌, ◌<◌, ◌≤◌, max, nat_lt, Bool, true, false, ℤ, pos, negsuc, neg_ℤ, ◌+ℤ◌, ◌-ℤ◌, ◌*ℤ◌, ◌≤ℤ◌, ◌<ℤ◌, int_lt, unsigned_abs, FitsSigned, Option, Some, None, Result, Ok, Err}
-use Rattle.std.specs.Prelude.{option_map}
+use Rattle.std.proofs.Common.{arith, refl, sym, ap, ◌∙◌, ◌≡◌, ℕ, ◌+◌, ◌-◌, ◌*◌, ◌^◌, ◌<◌, ◌≤◌, max, nat_lt, Bool, true, false, ℤ, pos, negsuc, ◌+ℤ◌, ◌-ℤ◌, ◌*ℤ◌, ◌≤ℤ◌, int_lt, unsigned_abs, FitsSigned, Option, Some, None}
 use Rattle.std.specs.Int.{int_max, int_min, w128}
 use Rattle.std.proofs.lemmas.Int.{clamps, fits_signed_from_abs, ints, unsigned_abs-mul}
 use Rattle.std.proofs.Math.IntN.{*ℤ_comm}
 use Rattle.base_words.proofs.Comparisons.{above_from_test, below_from_test}
 use Rattle.base_words.proofs.Products.{times_one, times_order, zero_times}
-use Rattle.boxed_problem.specs.BoxedFacts.{limit_size, limits_size}
+use Rattle.boxed_problem.specs.BoxedFacts.{limit_size}
 use Rattle.dec_core.specs.Scale.{scaled_to}
 use Rattle.dec_core.specs.declared.decimal.Decimal.{Decimal}
 use Rattle.smps_words.specs.declared.core_data.RowKind.{RowKind}
 use Rattle.smps_words.specs.declared.core_data.RowKind.TheVariants.{Less, Greater, Equal}
-use Rattle.join_words.specs.Limits.{limits_by, lower_limit, upper_limit}
-use Rattle.join_numbers.specs.Sizes.{IsFit, IsLarge, IsSize}
+use Rattle.join_words.specs.Limits.{limits_by}
+use Rattle.join_numbers.specs.Sizes.{IsLarge}
 use Rattle.join_numbers.specs.UnfitNumbers.{AreLarge}
 
 -- a number that doesn't fit is large
-pub large_unfit : (z : ℤ) → (FitsSigned w128 z → ⊥) → IsLarge z
+large_unfit : (z : ℤ) → (FitsSigned w128 z → ⊥) → IsLarge z
 large_unfit z h = by_test (nat_lt (unsigned_abs z) (2 ^ 127)) refl
   where
     by_test : (t : Bool) → nat_lt (unsigned_abs z) (2 ^ 127) ≡ t → 2 ^ 127 ≤ unsigned_abs z
@@ -24,7 +23,7 @@ large_unfit z h = by_test (nat_lt (unsigned_abs z) (2 ^ 127)) refl
     by_test false e = grind arith
 
 -- the right-hand side is one of the limits
-pub rhs_large : (kind : RowKind) (rhs : ℤ) (range : Option ℤ) → IsLarge rhs → AreLarge (limits_by kind rhs range)
+rhs_large : (kind : RowKind) (rhs : ℤ) (range : Option ℤ) → IsLarge rhs → AreLarge (limits_by kind rhs range)
 rhs_large Less rhs None h = omega (arith, h)
 rhs_large Less rhs (Some range) h = omega (arith, h)
 rhs_large Greater rhs None h = omega (arith, h)
@@ -37,24 +36,24 @@ rhs_large Equal rhs (Some range) h = by_test (int_lt range (pos 0)) refl
     by_test false e = let same : (rhs +ℤ int_min range (pos 0)) ≡ rhs = omega (arith, ints, clamps, above_from_test range (pos 0) e) in omega (arith, h, ap unsigned_abs same)
 
 -- a limit that is large makes the limits large
-pub lower_large : (lower upper : Option ℤ) → 2 ^ 127 ≤ limit_size lower → AreLarge (record { lower = lower; upper = upper })
+lower_large : (lower upper : Option ℤ) → 2 ^ 127 ≤ limit_size lower → AreLarge (record { lower = lower; upper = upper })
 lower_large lower upper h = omega (arith, h)
 
-pub upper_large : (lower upper : Option ℤ) → 2 ^ 127 ≤ limit_size upper → AreLarge (record { lower = lower; upper = upper })
+upper_large : (lower upper : Option ℤ) → 2 ^ 127 ≤ limit_size upper → AreLarge (record { lower = lower; upper = upper })
 upper_large lower upper h = omega (arith, h)
 
 -- a number with more places than it is scaled to stays the same
-pub scaled_same : (d : Decimal) (places : ℕ) → places < d.places → d.mantissa ≡ scaled_to d places
+scaled_same : (d : Decimal) (places : ℕ) → places < d.places → d.mantissa ≡ scaled_to d places
 scaled_same d places lt =
     let none : places - d.places ≡ 0 = omega (arith, lt) in
     sym (ap (λ k. d.mantissa *ℤ pos (10 ^ k)) none ∙ times_one d.mantissa)
 
 -- the magnitude of a scaled number
-pub scaled_size : (d : Decimal) (places : ℕ) → unsigned_abs (scaled_to d places) ≡ unsigned_abs d.mantissa * 10 ^ (places - d.places)
+scaled_size : (d : Decimal) (places : ℕ) → unsigned_abs (scaled_to d places) ≡ unsigned_abs d.mantissa * 10 ^ (places - d.places)
 scaled_size d places = unsigned_abs-mul d.mantissa (pos (10 ^ (places - d.places)))
 
 -- a scaled number has the sign of its mantissa
-pub scaled_below : (d : Decimal) (places : ℕ) → d.mantissa ≤ℤ pos 0 → scaled_to d places ≤ℤ pos 0
+scaled_below : (d : Decimal) (places : ℕ) → d.mantissa ≤ℤ pos 0 → scaled_to d places ≤ℤ pos 0
 scaled_below d places h =
     let order = times_order (10 ^ (places - d.places)) d.mantissa (pos 0) h in
     let turned = *ℤ_comm d.mantissa (pos (10 ^ (places - d.places))) in
@@ -62,7 +61,7 @@ scaled_below d places h =
     let no_times : (pos 0 *ℤ pos (10 ^ (places - d.places))) ≡ pos 0 = zero_times (pos (10 ^ (places - d.places))) in
     omega (arith, ints, order, turned, none, no_times)
 
-pub scaled_above : (d : Decimal) (places : ℕ) → pos 0 ≤ℤ d.mantissa → pos 0 ≤ℤ scaled_to d places
+scaled_above : (d : Decimal) (places : ℕ) → pos 0 ≤ℤ d.mantissa → pos 0 ≤ℤ scaled_to d places
 scaled_above d places h =
     let order = times_order (10 ^ (places - d.places)) (pos 0) d.mantissa h in
     let turned = *ℤ_comm d.mantissa (pos (10 ^ (places - d.places))) in
@@ -71,16 +70,16 @@ scaled_above d places h =
     omega (arith, ints, order, turned, none, no_times)
 
 -- a range below, and above
-pub low_range : (rhs range : ℤ) → range ≤ℤ pos 0 → (rhs -ℤ pos (unsigned_abs range)) ≡ (rhs +ℤ int_min range (pos 0))
+low_range : (rhs range : ℤ) → range ≤ℤ pos 0 → (rhs -ℤ pos (unsigned_abs range)) ≡ (rhs +ℤ int_min range (pos 0))
 low_range rhs (pos n) h = omega (arith, ints, clamps)
 low_range rhs (negsuc n) h = omega (arith, ints, clamps)
 
-pub no_low_range : (rhs range : ℤ) → pos 0 ≤ℤ range → rhs ≡ (rhs +ℤ int_min range (pos 0))
+no_low_range : (rhs range : ℤ) → pos 0 ≤ℤ range → rhs ≡ (rhs +ℤ int_min range (pos 0))
 no_low_range rhs range h = omega (arith, ints, clamps)
 
-pub high_range : (rhs range : ℤ) → pos 0 ≤ℤ range → (rhs +ℤ pos (unsigned_abs range)) ≡ (rhs +ℤ int_max range (pos 0))
+high_range : (rhs range : ℤ) → pos 0 ≤ℤ range → (rhs +ℤ pos (unsigned_abs range)) ≡ (rhs +ℤ int_max range (pos 0))
 high_range rhs (pos n) h = omega (arith, ints, clamps)
 high_range rhs (negsuc n) h = omega (arith, ints, clamps)
 
-pub no_high_range : (rhs range : ℤ) → range ≤ℤ pos 0 → rhs ≡ (rhs +ℤ int_max range (pos 0))
+no_high_range : (rhs range : ℤ) → range ≤ℤ pos 0 → rhs ≡ (rhs +ℤ int_max range (pos 0))
 no_high_range rhs range h = omega (arith, ints, clamps)

@@ -1,5 +1,5 @@
 -- Limits, or that one is large.
-use Rattle.std.specs.Prelude.{◌≡◌, ◌≤◌, ◌^◌, ℤ, Option, Some, None, Result, Ok, Err}
+use Rattle.std.specs.Prelude.{◌≡◌, ◌≤◌, ◌^◌, ℤ, Option, Result, Ok, Err}
 use Rattle.boxed_problem.specs.BoxedFacts.{limit_size}
 use Rattle.boxed_problem.specs.declared.parts.Limits.{Limits}
 use Rattle.join_numbers.specs.UnfitNumbers.{AreLarge}

@@ -1,5 +1,5 @@
 -- Numbers that fit 128 bits, and those that don't.
-use Rattle.std.specs.Prelude.{◌≡◌, ℕ, ◌≤◌, ◌^◌, ℤ, unsigned_abs, Option, Some, None, Result, Ok, Err}
+use Rattle.std.specs.Prelude.{◌≡◌, ℕ, ◌≤◌, ◌^◌, ℤ, unsigned_abs, Option, Some, None}
 
 -- a number of a magnitude of 2^127 or more
 abbrev pub IsLarge : ℤ → Type 0

@@ -1,5 +1,5 @@
 -- Lists with one item more, where there is one.
-use Rattle.std.specs.Prelude.{◌≡◌, if◌then◌else◌, List, [], ◌∷◌, ◌++◌, Option, Some, None}
+use Rattle.std.specs.Prelude.{if◌then◌else◌, List, [], ◌∷◌, ◌++◌, Option, Some, None}
 use Rattle.boxed_problem.specs.declared.parts.Entry.{Entry}
 use Rattle.smps_words.specs.declared.core_data.CoreEntry.{CoreEntry}
 use Rattle.sp_model.specs.declared.program.Change.{Change}

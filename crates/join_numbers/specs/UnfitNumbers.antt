@@ -1,5 +1,5 @@
 -- What can't be made for want of bits.
-use Rattle.std.specs.Prelude.{◌≡◌, ℕ, ◌<◌, ◌≤◌, ◌^◌, ℤ, Option, Some, None, Result, Ok, Err, option_map}
+use Rattle.std.specs.Prelude.{ℕ, ◌≤◌, ◌^◌, Option, Some, None, option_map}
 use Rattle.std.specs.List.{Any}
 use Rattle.boxed_problem.specs.BoxedFacts.{limits_size}
 use Rattle.boxed_problem.specs.declared.parts.Entry.{Entry}

@@ -1,27 +1,19 @@
 -- The definitions of a run at the worked examples, SMALL and PAIR.
-use Rattle.std.proofs.Common.{refl, ◌≡◌, ℕ, List, [], ◌∷◌, length, map, Some, None, true, false}
-use Rattle.std.specs.Prelude.{ℤ, pos, negsuc}
-use Rattle.boxed_problem.specs.declared.parts.Entry.{Entry}
+use Rattle.std.proofs.Common.{refl, ◌≡◌, ℕ, [], ◌∷◌, map, Some, None, false}
+use Rattle.std.specs.Prelude.{pos, negsuc}
 use Rattle.dec_core.specs.declared.decimal.Decimal.{Decimal}
 use Rattle.smps_words.specs.declared.core_data.CoreColumn.{CoreColumn}
 use Rattle.smps_words.specs.declared.core_data.CoreEntry.{CoreEntry}
 use Rattle.smps_words.specs.declared.core_data.CoreRow.{CoreRow}
 use Rattle.smps_words.specs.declared.core_data.RowKind.TheVariants.{Less, Greater, Equal}
 use Rattle.smps_stoch.specs.declared.stoch.Element.{Element}
-use Rattle.smps_stoch.specs.declared.stoch.Branch.{Branch}
-use Rattle.smps_stoch.specs.declared.stoch.Realisation.{Realisation}
 use Rattle.smps_stoch.specs.declared.stoch.Stoch.{Stoch}
-use Rattle.smps_stoch.specs.declared.stoch.Stoch.TheVariants.{Product, Scenarios}
+use Rattle.smps_stoch.specs.declared.stoch.Stoch.TheVariants.{Product}
 use Rattle.stoch_lines.specs.declared.places.StochEntry.{StochEntry}
 use Rattle.stoch_lines.specs.declared.places.StochPlace.TheVariants.{Right}
-use Rattle.scenario_lists.specs.Combinations.{all_choices}
 use Rattle.scenario_lists.specs.ScenarioList.{count_of, marks_of, scenarios_of}
 use Rattle.scenario_lists.specs.declared.data.ScenarioData.{ScenarioData}
-use Rattle.sp_model.specs.declared.program.Change.{Change}
 use Rattle.sp_model.specs.declared.program.Change.TheVariants as change
-use Rattle.sp_model.specs.declared.program.Column.{Column}
-use Rattle.sp_model.specs.declared.program.Row.{Row}
-use Rattle.sp_model.specs.declared.program.Scenario.{Scenario}
 use Rattle.join_words.specs.Boxes.{filled, side}
 use Rattle.join_words.specs.Limits.{limits_by}
 use Rattle.join_words.specs.Parts.{Firsts, Parts}

@@ -1,5 +1,5 @@
 -- What is joined, and by what its numbers become those of a run.
-use Rattle.std.specs.Prelude.{ℕ, length, map, ℤ}
+use Rattle.std.specs.Prelude.{length, map, ℤ}
 use Rattle.std.specs.List.{range_with_len}
 use Rattle.smps_words.specs.declared.core_file.Core.{Core}
 use Rattle.smps_words.specs.declared.periods.Periods.{Periods}

@@ -1,6 +1,6 @@
 -- What joining a core, its periods and a stoch file answers: the run, or the first cause why there
 -- is none.
-use Rattle.std.specs.Prelude.{◌≡◌, ℕ, true, false, None, Some, Result, Ok, Err, ℤ}
+use Rattle.std.specs.Prelude.{◌≡◌, true, false, None, Some, Result, Ok, Err}
 use Rattle.smps_words.specs.declared.core_file.Core.{Core}
 use Rattle.smps_words.specs.declared.periods.Periods.{Periods}
 use Rattle.smps_stoch.specs.declared.stoch.Stoch.{Stoch}

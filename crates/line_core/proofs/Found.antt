@@ -42,7 +42,7 @@ reads_none bytes number at e = ap (read_parts number at) (split_none is_newline 
 pub rest_none : (bytes : List ℕ) (number at : ℕ) → position is_newline (drop at bytes) ≡ None → rest_of bytes number at ≡ fault_or_lines (read_line number at (drop at bytes) ∷ [])
 rest_none bytes number at e = ap fault_or_lines (reads_none bytes number at e)
 
-pub after_after : (front more : List Line) (read : Result (List Line) LineFault) → after_lines front (after_lines more read) ≡ after_lines (front ++ more) read
+after_after : (front more : List Line) (read : Result (List Line) LineFault) → after_lines front (after_lines more read) ≡ after_lines (front ++ more) read
 after_after front more (Ok lines) = ap Ok (sym (append_assoc front more lines))
 after_after front more (Err fault) = refl
 

@@ -23,16 +23,16 @@ list_any-images p f [] = refl
 list_any-images p f (x ∷ xs) = ap (λ b. p (f x) || b) (list_any-images p f xs)
 
 -- no element passes where there is no first one
-pub none_passes : {X : Type 0} (p : X → Bool) (xs : List X) → position p xs ≡ None → list_any p xs ≡ false
-none_passes p [] e = refl
-none_passes p (x ∷ xs) e = grind (arith, common_steps, none_passes p xs)
+pub any_none : {X : Type 0} (p : X → Bool) (xs : List X) → position p xs ≡ None → list_any p xs ≡ false
+any_none p [] e = refl
+any_none p (x ∷ xs) e = grind (arith, common_steps, any_none p xs)
 
 -- a name that isn't there goes last
 pub add_new : {V : Type 0} (f : V → List ℕ) (keys new : List V) (copy : V) (name : List ℕ) (names : List (List ℕ)) → f copy ≡ name → map f keys ≡ names → number_of name names ≡ None → new ≡ insert_key (λ a b. bytes_eq (f a) (f b)) keys copy → map f new ≡ names ++ name ∷ []
 add_new f keys new copy name names is all none inserted =
     let images = list_any-images (bytes_eq (f copy)) f keys in
     let missing : position (bytes_eq (f copy)) (map f keys) ≡ None = ap (λ n. position (bytes_eq n) (map f keys)) is ∙ ap (number_of name) all ∙ none in
-    let absent = sym images ∙ none_passes (bytes_eq (f copy)) (map f keys) missing in
+    let absent = sym images ∙ any_none (bytes_eq (f copy)) (map f keys) missing in
     ap (map f) (inserted ∙ ap (λ b. if b then keys else keys ++ copy ∷ []) absent)
     ∙ map-append f keys (copy ∷ [])
     ∙ ap (λ ns. ns ++ f copy ∷ []) all
@@ -43,7 +43,7 @@ distinct_tail p f [] h = tt
 distinct_tail p f (x ∷ xs) h = (h.0, distinct_tail p f xs h.1)
 
 -- elements whose images differ have distinct images
-pub distinct_images : {X Y : Type 0} (eq : Y → Y → Bool) (f : X → Y) (xs : List X) → IsDistinct (λ a b. eq (f a) (f b)) xs → IsDistinct eq (map f xs)
+distinct_images : {X Y : Type 0} (eq : Y → Y → Bool) (f : X → Y) (xs : List X) → IsDistinct (λ a b. eq (f a) (f b)) xs → IsDistinct eq (map f xs)
 unfolding IsDistinct
 distinct_images eq f [] h = tt
 distinct_images eq f (x ∷ xs) h = (distinct_tail (eq (f x)) f xs h.0, distinct_images eq f xs h.1)

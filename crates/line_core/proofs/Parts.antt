@@ -9,7 +9,7 @@ use Rattle.line_core.specs.Fields.{is_blank, run_span, part_spans, fields_at}
 use Rattle.line_core.specs.declared.field_list.Span.{Span}
 
 -- where an element passes, the first part ends there
-pub split_some : {X : Type 0} (p : X → Bool) (xs : List X) (k : ℕ) (d : X) → position p xs ≡ Some k → slice_split p xs ≡ take k xs ∷ slice_split p (drop (k + 1) xs)
+split_some : {X : Type 0} (p : X → Bool) (xs : List X) (k : ℕ) (d : X) → position p xs ≡ Some k → slice_split p xs ≡ take k xs ∷ slice_split p (drop (k + 1) xs)
 split_some p xs k d e = grind (arith, common_steps, slice_split_first p xs d)
 
 -- where none passes, the list is the one part

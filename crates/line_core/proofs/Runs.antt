@@ -1,5 +1,5 @@
 -- the fields of a text are its longest runs of bytes that aren't blanks
-use Rattle.std.proofs.Common.{◌≡◌, ℕ, ◌+◌, ◌-◌, ◌<◌, ◌≤◌, suc, zero, Bool, true, false, List, [], ◌∷◌, ◌++◌, length, drop, get_or, position, Option, Some, None, refl, sym, ap, ◌∙◌, ◌⊎◌, inl, inr, subst, arith, append-nil, true≢false}
+use Rattle.std.proofs.Common.{◌≡◌, ℕ, ◌+◌, ◌-◌, ◌<◌, ◌≤◌, suc, zero, Bool, true, false, List, [], ◌∷◌, ◌++◌, length, drop, get_or, position, Option, Some, None, refl, sym, ap, ◌∙◌, ◌⊎◌, inl, inr, subst, arith, append-nil}
 use Rattle.std.specs.List.{All, AllPairs, Contains}
 use Rattle.std.proofs.lemmas.Bool.{cases_lt}
 use Rattle.std.proofs.lemmas.Bool.Decides.{nat_tests}
@@ -9,6 +9,7 @@ use Rattle.std.proofs.lemmas.List.Kept.{AllPairs-cons}
 use Rattle.std.proofs.lemmas.List.{get_or-drop}
 use Rattle.std.proofs.lemmas.List.Sums.{fails_before_first}
 use Rattle.std.proofs.lemmas.List.Quantifiers.{position-Some}
+use Rattle.base_words.proofs.Booleans.{not_both}
 use Rattle.line_core.specs.Fields.{is_blank, run_span, fields_at}
 use Rattle.line_core.specs.Runs.{IsFieldAt, IsFieldOf, IsBefore}
 use Rattle.line_core.specs.declared.field_list.Span.{Span}
@@ -26,9 +27,6 @@ record IsStretch (text : List ℕ) (at stop : ℕ) : Type 0 where
   before : (k : ℕ) → k + 1 ≡ at → is_blank (get_or text k 0) ≡ true
   after : stop < length text → is_blank (get_or text stop 0) ≡ true
 
-not_both : {X : Type 0} (b : Bool) → b ≡ true → b ≡ false → X
-not_both b t f = absurd (true≢false (sym t ∙ f))
-
 -- a stretch with a byte is a run
 run_of : (text : List ℕ) (at stop : ℕ) → IsStretch text at stop → at < stop → IsFieldAt text at stop
 run_of text at stop s h = record { some = h; within = s.within; unbroken = s.solid; begins = s.before; ends = s.after }
@@ -37,16 +35,16 @@ run_of text at stop s h = record { some = h; within = s.within; unbroken = s.sol
 begins_with : (text : List ℕ) (at stop first last : ℕ) → IsStretch text at stop → IsFieldAt text first last → at ≤ first → first ≤ stop → first ≡ at
 begins_with text at stop first last s r low high =
     elim (cases_lt at first) [
-      | inl h ↦ not_both (is_blank (get_or text (first - 1) 0)) (r.begins (first - 1) (omega arith)) (s.solid (first - 1) (omega arith) (omega arith))
+      | inl h ↦ absurd (not_both (is_blank (get_or text (first - 1) 0)) (r.begins (first - 1) (omega arith)) (s.solid (first - 1) (omega arith) (omega arith)))
       | inr h ↦ omega arith
     ]
 
 ends_with : (text : List ℕ) (at stop first last : ℕ) → IsStretch text at stop → IsFieldAt text first last → at ≤ first → first ≤ stop → last ≡ stop
 ends_with text at stop first last s r low high =
     elim (cases_lt last stop) [
-      | inl h ↦ not_both (is_blank (get_or text last 0)) (r.ends (omega (arith, s.within))) (s.solid last (omega (arith, r.some)) h)
+      | inl h ↦ absurd (not_both (is_blank (get_or text last 0)) (r.ends (omega (arith, s.within))) (s.solid last (omega (arith, r.some)) h))
       | inr h ↦ elim (cases_lt stop last) [
-        | inl g ↦ not_both (is_blank (get_or text stop 0)) (s.after (omega (arith, r.within))) (r.unbroken stop high g)
+        | inl g ↦ absurd (not_both (is_blank (get_or text stop 0)) (s.after (omega (arith, r.within))) (r.unbroken stop high g))
         | inr g ↦ omega arith
       ]
     ]
@@ -73,7 +71,7 @@ skip_none start at text rest s f = record {
   each = All-weaker (IsFieldFrom start (at + 1) text) (IsFieldFrom start at text) (λ span h. (omega (arith, h.0), h.1)) rest f.each;
   every = λ first last low r. elim (cases_lt at first) [
     | inl h ↦ f.every first last (omega arith) r
-    | inr h ↦ not_both (is_blank (get_or text at 0)) (s.after (omega (arith, r.some, r.within))) (r.unbroken at h (omega (arith, r.some)))
+    | inr h ↦ absurd (not_both (is_blank (get_or text at 0)) (s.after (omega (arith, r.some, r.within))) (r.unbroken at h (omega (arith, r.some))))
   ];
   rise = f.rise;
 }
@@ -184,7 +182,7 @@ are_fields (suc n) start at text many within before =
           (are_fields n start (at + (s.0 + 1)) text (omega arith) (omega (arith, stretch.0)) (next_before text at s.0 (stretch.1.after stretch.0)))
     ]
 
-pub all_fields : (start : ℕ) (text : List ℕ) → AreFields start 0 text (fields_at start text)
+all_fields : (start : ℕ) (text : List ℕ) → AreFields start 0 text (fields_at start text)
 all_fields start text =
     let none : start + 0 ≡ start = omega arith in
     subst (λ a. AreFields start 0 text (fields_at a text)) none

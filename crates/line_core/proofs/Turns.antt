@@ -36,7 +36,7 @@ line_last bytes number at e is = ap has_line (reads_none bytes number at e) ∙ 
 
 -- where the loop stands: what is found and what is left are the lines of the file, and a line that is left may want memory
 pub record StandsAt (bytes : List ℕ) (found : List Line) (number at : ℕ) : Type 0 where
-  pub found_is : after_lines found (rest_of bytes number at) ≡ lines_of bytes
+  found_is : after_lines found (rest_of bytes number at) ≡ lines_of bytes
   pub memory : has_line (reads_from bytes number at) ≡ true → may_want_memory bytes ≡ true
 
 after_none : (read : Result (List Line) LineFault) → after_lines [] read ≡ read

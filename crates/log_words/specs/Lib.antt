@@ -1,6 +1,10 @@
 pub mod Candidates
 pub mod Replies
 pub use Rattle.boxed_problem.specs.Data
+pub use Rattle.boxed_problem.specs.Sides
+pub use Rattle.put_words.specs.NextMultipliers
+pub use Rattle.put_words.specs.NodeSums
 pub use Rattle.put_words.specs.Puts
+pub use Rattle.sp_model.specs.Changes
 pub use Rattle.sp_model.specs.Plans
 pub use Rattle.sp_model.specs.Problems

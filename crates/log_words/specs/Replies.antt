@@ -1,6 +1,6 @@
 -- The value of each spoke's reply to each put.
 
-use Rattle.std.specs.Prelude.{ℕ, ◌+◌, ◌-◌, ◌*◌, nat_eq, nat_lt, Bool, ◌&&◌, List, [], ◌∷◌, ◌++◌, map, ℤ, Option, if◌then◌else◌, option_and_then}
+use Rattle.std.specs.Prelude.{ℕ, ◌+◌, ◌-◌, ◌*◌, nat_eq, nat_lt, ◌&&◌, List, [], ◌∷◌, ◌++◌, map, ℤ, Option, if◌then◌else◌, option_and_then}
 use Rattle.std.specs.Int.{int_min}
 use Rattle.std.specs.List.{filter_map, range_with_len, reduce}
 use Rattle.sp_model.specs.Plans.{dual_of}

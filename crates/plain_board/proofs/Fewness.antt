@@ -1,9 +1,10 @@
 -- Each call leaves no more entries than the number of the last.
-use Rattle.std.proofs.Common.{◌≡◌, ◌≢◌, ℕ, zero, suc, ◌+◌, ◌-◌, ◌*◌, ◌/◌, ◌<◌, ◌≤◌, Bool, true, false, ◌||◌, List, [], ◌∷◌, ◌++◌, length, get_or, set, nat_eq, nat_lt, if◌then◌else◌, sym, refl, ap, ◌∙◌, subst, arith, get_or-set_other, get_or-set_same}
+use Rattle.std.proofs.Common.{◌≡◌, ◌≢◌, ℕ, zero, suc, ◌+◌, ◌-◌, ◌*◌, ◌/◌, ◌<◌, ◌≤◌, Bool, true, false, List, [], ◌∷◌, ◌++◌, length, get_or, set, nat_eq, nat_lt, if◌then◌else◌, sym, refl, ap, ◌∙◌, subst, arith, get_or-set_other, get_or-set_same}
 use Rattle.std.specs.Prelude.{All, Option, Some, None}
 use Rattle.std.specs.List.{list_any}
 use Rattle.std.proofs.lemmas.List.Elements.{All-cons, All-nil, All-head, All-get_or, All-weaker}
 use Rattle.std.proofs.lemmas.Bool.{eq-eqb, le-ltb}
+use Rattle.base_words.proofs.Booleans.{neither}
 use mathlib.Core.Logic.{dite}
 use native.Mathlib.Decide.{ℕ_discrete, dec_le}
 use Rattle.window_words.specs.Views.{one, pending, last_of, one_more, close_first, entry_of, accept, add_once, ended, is_whole, with_owned, with_reading, with_accepted, with_stopped}
@@ -70,15 +71,11 @@ few_reading leaders v r f = record { closed = f.closed; above = f.above; accepte
 pub few_stopped : (leaders n : ℕ) (v : View) → IsFew leaders v → IsFew leaders (with_stopped v n)
 few_stopped leaders n v f = record { closed = f.closed; above = f.above; accepted = f.accepted }
 
-either_false : (a b : Bool) → (a || b) ≡ false → (a ≡ false) × (b ≡ false)
-either_false true b e = absurd cc
-either_false false b e = (refl, e)
-
 -- an item of a list none of whose items is k isn't k
 none_is : (ks : List ℕ) (i k : ℕ) → list_any (λ j. nat_eq j k) ks ≡ false → i < length ks → get_or ks i 0 ≢ k
 none_is [] i k none l e = absurd (omega arith)
-none_is (x ∷ xs) zero k none l e = let f : nat_eq x k ≡ false = (either_false (nat_eq x k) (list_any (λ j. nat_eq j k) xs) none).0 in let t : nat_eq x k ≡ true = eq-eqb x k e in cc
-none_is (x ∷ xs) (suc i) k none l e = none_is xs i k (either_false (nat_eq x k) (list_any (λ j. nat_eq j k) xs) none).1 (omega arith) e
+none_is (x ∷ xs) zero k none l e = let f : nat_eq x k ≡ false = (neither (nat_eq x k) (list_any (λ j. nat_eq j k) xs) none).0 in let t : nat_eq x k ≡ true = eq-eqb x k e in cc
+none_is (x ∷ xs) (suc i) k none l e = none_is xs i k (neither (nat_eq x k) (list_any (λ j. nat_eq j k) xs) none).1 (omega arith) e
 
 -- an entry that is at least all of a list and isn't there is above the last
 pub above_last : (ks : List ℕ) (k : ℕ) → 1 ≤ k → All (λ j. j ≤ k) ks → list_any (λ j. nat_eq j k) ks ≡ false → last_of ks < k
@@ -97,7 +94,7 @@ pub past_leaders : (ks : List ℕ) (w leaders k : ℕ) → leaders ≤ w → (if
 past_leaders ks w leaders k past = ap (λ (b : Bool). if b then k ∷ [] else add_once k ks) (le-ltb w leaders past)
 
 -- entry k of window w is accepted
-pub few_accepted : (leaders w k : ℕ) (acc : List (List ℕ)) → 1 ≤ k → All (λ j. j ≤ k) (get_or acc w []) → ((j : ℕ) → leaders ≤ j → IsShortList (get_or acc j []))
+few_accepted : (leaders w k : ℕ) (acc : List (List ℕ)) → 1 ≤ k → All (λ j. j ≤ k) (get_or acc w []) → ((j : ℕ) → leaders ≤ j → IsShortList (get_or acc j []))
     → (j : ℕ) → leaders ≤ j → IsShortList (get_or (accept leaders w k acc) j [])
 few_accepted leaders w k acc pos all short j past = dite (ℕ_discrete w j)
     (λ same. dite (dec_le (suc w) (length acc))

@@ -5,11 +5,12 @@ use Rattle.std.specs.List.{range_with_len, Contains}
 use Rattle.std.proofs.lemmas.List.{get_or-map, length-map, length-replicate, map-append}
 use Rattle.std.proofs.lemmas.List.FromFn.{length-map-range_with_len, map-range_with_len_more}
 use Rattle.std.proofs.lemmas.List.Elements.{All-append, All-cons, All-nil}
+use Rattle.base_words.proofs.FirstAnswers.{same_some}
 use mathlib.Core.Option.{some, some-injective, some-ne-none}
 use mathlib.Core.Logic.{dite}
 use native.Mathlib.Decide.{ℕ_discrete}
 use lib.ListN.{get_elem?}
-use Rattle.wide_num.specs.RoomContents.{Contents}
+use Rattle.wide_num.specs.RoomContents.{Contents, with_room, room_of}
 use Rattle.window_words.specs.Views.{last_of}
 use Rattle.window_words.specs.Rule.{start, stamp, Account, Knows, Windows}
 use Rattle.window_words.specs.Steps.{known}
@@ -18,8 +19,6 @@ use Rattle.window_words.specs.declared.views.Known.{Known}
 use Rattle.window_words.specs.declared.views.Owned.{Owned}
 use Rattle.window_words.specs.declared.views.Pending.{Pending}
 use Rattle.window_words.proofs.Listed.{length_push, push_at, push_before}
-use Rattle.window_words.proofs.Readers.{same_some}
-use Rattle.window_words.specs.Rooms.{with_room, room_of}
 use Rattle.plain_board.specs.declared.seat.PlainSeat.{PlainSeat}
 use Rattle.plain_board.specs.Tracks.{items_of}
 use Rattle.plain_board.specs.Seats.{shown, room_for, IsRoomy}
@@ -76,7 +75,7 @@ module _ {M : Type 0} (entry : ℕ → ℕ → List ℕ) (wide : ℕ → ℕ) (c
       let is : known of (owner_view count j) ≡ v = ap (λ (i : ℕ). known of (owner_view count i)) here ∙ t.1 in
       (ap (λ (z : Known M). z.of) is, subst (λ (z : Known M × ℕ). K z.1 z.0.view) (λ i. (is i, next i)) (owner_knows j t.0), sym (ap (λ (z : Known M). z.view.accepted) is))
 
-  pub opens_well : Windows entry wide count lead most of (state of ws (fresh_views count))
+  opens_well : Windows entry wide count lead most of (state of ws (fresh_views count))
   opens_well = record {
     hub = 0;
     dealt = count;
@@ -86,7 +85,7 @@ module _ {M : Type 0} (entry : ℕ → ℕ → List ℕ) (wide : ℕ → ℕ) (c
     new = λ w l b. absurd (omega arith);
     top = λ w b. let z = same_all nought (start wide count) (start wide w) in omega arith;
     whole = λ w k b pos e i l. let z = same_all nought (start wide count) (start wide w) in absurd (omega arith);
-    same = λ j v m at is. same_some m of (sym is ∙ sym (each_knows j v at).0);
+    same = λ j v m at is. same_some (sym is ∙ sym (each_knows j v at).0);
     each = λ j v at. (each_knows j v at).1;
     following = λ w u past b l. let at_w = same_all nought (start wide count) (start wide w) in let at_u = same_all nought (start wide count) (start wide u) in omega arith;
     listed = λ i j v u at_v at_u k d l. let a : Owned = get_or u.view.owned k d in
@@ -97,11 +96,11 @@ module _ {M : Type 0} (entry : ℕ → ℕ → List ℕ) (wide : ℕ → ℕ) (c
 abbrev no_entries : List ℕ
 no_entries = []
 
-pub fresh_items : (leaders most a n : ℕ) → map items_of (map (fresh_track leaders most) (range_with_len a n)) ≡ replicate n []
+fresh_items : (leaders most a n : ℕ) → map items_of (map (fresh_track leaders most) (range_with_len a n)) ≡ replicate n []
 fresh_items leaders most a zero = refl
 fresh_items leaders most a (suc n) = ap (λ (z : List (List ℕ)). [] ∷ z) (fresh_items leaders most (a + 1) n)
 
-pub fresh_rooms : (leaders most a n : ℕ) → map room_of (map (fresh_track leaders most) (range_with_len a n)) ≡ map (room_for leaders most) (range_with_len a n)
+fresh_rooms : (leaders most a n : ℕ) → map room_of (map (fresh_track leaders most) (range_with_len a n)) ≡ map (room_for leaders most) (range_with_len a n)
 fresh_rooms leaders most a zero = refl
 fresh_rooms leaders most a (suc n) = let here : room_of (fresh_track leaders most a) ≡ room_for leaders most a = omega arith in let rest = fresh_rooms leaders most (a + 1) n in λ i. here i ∷ rest i
 
@@ -125,7 +124,7 @@ each_few : (leaders count a n : ℕ) → All (IsFew leaders) (map (owner_view co
 each_few leaders count a zero = All-nil (IsFew leaders)
 each_few leaders count a (suc n) = All-cons (IsFew leaders) (owner_view count a) _ (few_owner leaders count a) (each_few leaders count (a + 1) n)
 
-pub fresh_few : (leaders count : ℕ) → All (IsFew leaders) (fresh_views count)
+fresh_few : (leaders count : ℕ) → All (IsFew leaders) (fresh_views count)
 fresh_few leaders count = All-cons (IsFew leaders) (hub_view count) _ (few_hub leaders count) (each_few leaders count 0 count)
 
 few_seats : (leaders : ℕ) (seats : List PlainSeat) → All (IsFew leaders) (map shown seats) → All (λ s. IsFew leaders (shown s)) seats
@@ -135,7 +134,7 @@ fresh_length : (count : ℕ) → length (fresh_views count) ≡ count + 1
 fresh_length count = let l = length-map-range_with_len (owner_view count) 0 count in omega arith
 
 -- what a fresh board keeps
-pub fresh_rule : {M : Type 0} (E : M → ℕ → ℕ → List ℕ) (W : M → ℕ → ℕ) (C Ld L : M → ℕ) (of : M) (words starts : List ℕ) (n widest : ℕ) (seats : List PlainSeat) → ArePlaces (W of) (C of) starts n widest → words ≡ replicate n 0 → map shown seats ≡ fresh_views (C of)
+fresh_rule : {M : Type 0} (E : M → ℕ → ℕ → List ℕ) (W : M → ℕ → ℕ) (C Ld L : M → ℕ) (of : M) (words starts : List ℕ) (n widest : ℕ) (seats : List PlainSeat) → ArePlaces (W of) (C of) starts n widest → words ≡ replicate n 0 → map shown seats ≡ fresh_views (C of)
     → All (IsRoomy (Ld of) (C of) widest (L of)) seats → PlainRule E W C Ld L of words starts seats 0
 fresh_rule {M} E W C Ld L of words starts n widest seats places zero_words views rooms = let many : length seats ≡ C of + 1 = sym (length-map seats shown) ∙ (ap length views ∙ fresh_length (C of)) in
     let all_zero : words ≡ replicate (start (W of) (C of)) 0 = zero_words ∙ ap (λ (z : ℕ). replicate z nought) places.2 in record {

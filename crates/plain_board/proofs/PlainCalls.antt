@@ -66,7 +66,7 @@ module _ {M : Type 0} (E : M → ℕ → ℕ → List ℕ) (W : M → ℕ → �
   own_below w closed o owned is_open = let a = account w closed o owned is_open in let b = a.below in let range = r.rule.in_range in omega arith
 
   -- and the place of its stamp is at hand
-  pub own_place : (w : ℕ) (closed : List ℕ) (o : Option Pending) → v.owned ≡ one w closed → v.pending ≡ o → (own_window v < length starts) × (get_or starts (own_window v) 0 ≡ start (W of) w)
+  own_place : (w : ℕ) (closed : List ℕ) (o : Option Pending) → v.owned ≡ one w closed → v.pending ≡ o → (own_window v < length starts) × (get_or starts (own_window v) 0 ≡ start (W of) w)
   own_place w closed o owned is_open = let b = own_below w closed o owned is_open in let many = r.many in let e : own_window v ≡ w = ap first_window owned in
       (omega arith, ap (λ (z : ℕ). get_or starts z 0) e ∙ r.begin w b)
 

@@ -6,7 +6,7 @@ use Rattle.std.proofs.lemmas.List.{get_or-map, length-map}
 use Rattle.std.proofs.lemmas.List.FromFn.{get_or-map-range_with_len, length-map-range_with_len}
 use Rattle.std.proofs.lemmas.List.Elements.{All-head, All-weaker}
 use Rattle.std.proofs.lemmas.Bool.{le-ltb, lt-ltb}
-use Rattle.wide_num.specs.RoomContents.{Contents}
+use Rattle.wide_num.specs.RoomContents.{Contents, room_of}
 use Rattle.window_words.specs.Views.{one, last_of, pending}
 use Rattle.window_words.specs.declared.views.Owned.{Owned}
 use Rattle.window_words.specs.declared.views.Reading.{Reading}
@@ -16,7 +16,6 @@ use Rattle.plain_board.specs.Tracks.{items_of, empty}
 use Rattle.plain_board.specs.Seats.{shown, owned_of, reading_of, read_count, IsRoomy, KeepsRoom, room_for, HasRoomToEnd}
 use Rattle.plain_board.specs.Plain.{IsFew}
 use Rattle.window_words.proofs.Stamps.{whole_tells}
-use Rattle.window_words.specs.Rooms.{room_of}
 use Rattle.plain_board.proofs.Fewness.{above_last}
 
 -- entries are never more than the number of the last, so one above it finds room

@@ -5,9 +5,8 @@ use Rattle.std.specs.Prelude.{Option, Some, None}
 use Rattle.std.proofs.lemmas.List.{get_or-map, get_or_read, map-set}
 use Rattle.std.proofs.lemmas.Bool.{lt-ltb}
 use Rattle.std.proofs.Math.Seq.{map-set_same}
-use Rattle.wide_num.specs.RoomContents.{Contents}
+use Rattle.wide_num.specs.RoomContents.{Contents, room_of}
 use Rattle.window_words.specs.Views.{accept, add_once, close_first, longer}
-use Rattle.window_words.specs.Rooms.{room_of}
 use Rattle.plain_board.specs.declared.seat.Begun.{Begun}
 use Rattle.plain_board.specs.Tracks.{items_of, empty}
 use Rattle.plain_board.specs.Seats.{owned_of, reading_of, HasRoomFor}
@@ -21,7 +20,7 @@ pub reading_push : (o : Option Begun) (words : List ℕ) (n : ℕ) → reading_o
 reading_push None words n = refl
 reading_push (Some b) words n = refl
 
-pub rooms_set : (ts : List (Contents ℕ)) (w : ℕ) (t : Contents ℕ) → room_of t ≡ room_of (get_or ts w empty) → map room_of (set ts w t) ≡ map room_of ts
+rooms_set : (ts : List (Contents ℕ)) (w : ℕ) (t : Contents ℕ) → room_of t ≡ room_of (get_or ts w empty) → map room_of (set ts w t) ≡ map room_of ts
 rooms_set ts w t e = map-set_same room_of ts w t empty e
 
 -- the latest of a leader's entries
@@ -32,7 +31,7 @@ leader_accepts ts leaders w k t l e = map-set items_of ts w t ∙ ap (set (map i
     leads ks w leaders k l = ap (λ (b : Bool). if b then k ∷ [] else add_once k ks) (lt-ltb w leaders l)
 
 -- one more of another's
-pub other_accepts : (ts : List (Contents ℕ)) (leaders w k : ℕ) (old t : Contents ℕ) → leaders ≤ w → w < length ts → get_or ts w empty ≡ old → t.items ≡ add_once k old.items → map items_of (set ts w t) ≡ accept leaders w k (map items_of ts)
+other_accepts : (ts : List (Contents ℕ)) (leaders w k : ℕ) (old t : Contents ℕ) → leaders ≤ w → w < length ts → get_or ts w empty ≡ old → t.items ≡ add_once k old.items → map items_of (set ts w t) ≡ accept leaders w k (map items_of ts)
 other_accepts ts leaders w k old t past inside is e = map-set items_of ts w t ∙ ap (set (map items_of ts) w)
     (e ∙ (ap (λ (z : Contents ℕ). add_once k z.items) (sym is) ∙ (ap (add_once k) (sym (get_or-map items_of ts w empty [] inside)) ∙ sym (past_leaders (get_or (map items_of ts) w []) w leaders k past))))
 

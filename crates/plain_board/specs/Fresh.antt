@@ -1,9 +1,8 @@
 -- What a board is made of: where its windows lie, and seats that know nothing yet.
 use Rattle.std.specs.Prelude.{◌≡◌, ◌<◌, ◌≤◌, ℕ, false, List, [], length, replicate, slice_index, None}
-use Rattle.wide_num.specs.RoomContents.{Contents}
+use Rattle.wide_num.specs.RoomContents.{Contents, with_room}
 use Rattle.window_words.specs.Rule.{start}
 use Rattle.window_words.specs.declared.views.View.{View}
-use Rattle.window_words.specs.Rooms.{with_room}
 use Rattle.plain_board.specs.Seats.{room_for}
 
 -- where the windows begin, how many words there are, and a width that is the greatest

@@ -3,7 +3,6 @@ pub mod Plain
 pub mod Seats
 pub mod Tracks
 pub use Rattle.wide_num.specs.RoomContents
-pub use Rattle.window_words.specs.Rooms
 pub use Rattle.window_words.specs.Conditions
 pub use Rattle.window_words.specs.Rule
 pub use Rattle.window_words.specs.Steps

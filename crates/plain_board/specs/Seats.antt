@@ -1,13 +1,12 @@
 -- What a plain seat shows of what it knows, and the room that it keeps for more.
 use Rattle.std.specs.Prelude.{◌≡◌, ◌<◌, ◌≤◌, ℕ, ◌/◌, true, false, nat_eq, nat_lt, if◌then◌else◌, List, [], ◌∷◌, map, length, slice_index_or, Option, Some, None}
 use Rattle.std.specs.List.{list_any, range_with_len}
-use Rattle.wide_num.specs.RoomContents.{Contents}
+use Rattle.wide_num.specs.RoomContents.{Contents, room_of}
 use Rattle.window_words.specs.Views.{one, is_whole}
 use Rattle.window_words.specs.declared.views.View.{View}
 use Rattle.window_words.specs.declared.views.Owned.{Owned}
 use Rattle.window_words.specs.declared.views.Pending.{Pending}
 use Rattle.window_words.specs.declared.views.Reading.{Reading}
-use Rattle.window_words.specs.Rooms.{room_of}
 use Rattle.plain_board.specs.declared.seat.Begun.{Begun}
 use Rattle.plain_board.specs.declared.seat.PlainSeat.{PlainSeat}
 use Rattle.plain_board.specs.Tracks.{items_of, empty}

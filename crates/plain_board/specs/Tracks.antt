@@ -1,7 +1,6 @@
--- The room of a track.
+-- What a track holds, and an empty one.
 use Rattle.std.specs.Prelude.{ℕ, List}
-use Rattle.wide_num.specs.RoomContents.{Contents}
-use Rattle.window_words.specs.Rooms.{with_room}
+use Rattle.wide_num.specs.RoomContents.{Contents, with_room}
 
 abbrev pub items_of : Contents ℕ → List ℕ
 items_of c = c.items

@@ -1,6 +1,6 @@
 ghost use Rattle.std.specs.Prelude.{◌≡◌, ℕ, ◌+◌, All, IfOk, map, replicate};
 ghost use Rattle.std.specs.List.{range_with_len};
-ghost use Rattle.window_words.specs.Rooms.{with_room};
+ghost use Rattle.wide_num.specs.RoomContents.{with_room};
 ghost use Rattle.plain_board.specs.Seats.{shown, room_for, IsRoomy};
 ghost use Rattle.plain_board.specs.Plain.{hub_view, owner_view, fresh_views};
 ghost use Rattle.plain_board.specs.Fresh.{ArePlaces, blank_view, fresh_track};

@@ -1,7 +1,7 @@
 ghost use Rattle.std.specs.Prelude.{◌≡◌, ℕ, ◌+◌, ◌<◌, ◌^◌, map};
+ghost use Rattle.wide_num.specs.RoomContents.{room_of};
 ghost use Rattle.window_words.specs.Views.{accept, ended, entry_of, gained, is_whole, longer, one_more, with_owned, with_reading};
 ghost use Rattle.window_words.specs.declared.views.Call.TheVariants.{Open, Close, Begin, Stop};
-ghost use Rattle.window_words.specs.Rooms.{room_of};
 ghost use Rattle.plain_board.specs.Tracks.{items_of};
 ghost use Rattle.plain_board.specs.Seats.{shown, own_window, put_count, HasRoomFor, HasRoomToEnd, KeepsRoom};
 

@@ -1,7 +1,7 @@
 ghost use Rattle.std.specs.Prelude.{◌≡◌, false, [], ◌∷◌, ◌++◌, ◌+◌, ◌<◌, length, IfOk, nat_eq};
 ghost use Rattle.std.specs.List.{list_any};
+ghost use Rattle.wide_num.specs.RoomContents.{with_room, room_of};
 ghost use Rattle.window_words.specs.Views.{add_once};
-ghost use Rattle.window_words.specs.Rooms.{with_room, room_of};
 
 use std::alloc::{AllocError, Global};
 use std::marker::Model;

@@ -19,7 +19,7 @@ use Rattle.boxed_problem.specs.Rows.{activity, activity_part}
 use Rattle.boxed_problem.specs.Sides.{reach, side_at}
 use Rattle.boxed_problem.specs.declared.parts.Entry.{Entry}
 use Rattle.boxed_problem.proofs.Magnitudes.{activity_fits, activity_part-size, entry_within, reach_bounds}
-use Rattle.sp_model.specs.Changes.{all_data, core_data, data_of, limits_of, side_of, sides}
+use Rattle.sp_model.specs.Changes.{core_data, data_of, limits_of, side_of, sides}
 use Rattle.sp_model.specs.RunFacts.{is_change}
 use Rattle.sp_model.specs.Problems.{data_at, no_scenario, scenario_at, scenarios}
 use Rattle.sp_model.specs.declared.program.Change.{Change}
@@ -35,7 +35,7 @@ use Rattle.reach_core.proofs.Within.{sum_le}
 use Rattle.plan_calls.specs.Moves.{IsSmallMove, IsSmallPart, cell, entry_in, move_of}
 
 -- the sizes of the core's entries in a row, and of a scenario's
-pub core_row : (run : Run) (i : ℕ) → i < length run.program.rows → sum_by (entry_size (sides run.program) i) run.program.entries ≤ 2 ^ 120
+core_row : (run : Run) (i : ℕ) → i < length run.program.rows → sum_by (entry_size (sides run.program) i) run.program.entries ≤ 2 ^ 120
 core_row run i l =
     let p = run.program in
     let own = sum_le p (core_data p) i (omega (arith, l, length-map p.rows limits_of)) in
@@ -116,7 +116,7 @@ sizes_add f g [] = omega arith
 sizes_add f g (c ∷ cs) = omega (arith, sizes_add f g cs, sum_by-cons (λ e. f e + g e) c cs, sum_by-cons f c cs, sum_by-cons g c cs)
 
 -- the core's activity, moved by the first changes
-pub moved_small : (run : Run) (s i k : ℕ) (x : List ℤ) → s < scenarios run → i < length run.program.rows → InBox (sides run.program) x → k ≤ length (scenario_at run s).changes →
+moved_small : (run : Run) (s i k : ℕ) (x : List ℤ) → s < scenarios run → i < length run.program.rows → InBox (sides run.program) x → k ≤ length (scenario_at run s).changes →
     unsigned_abs (activity run.program.entries x i +ℤ sum_z (move_of (core_data run.program) x i) (take k (scenario_at run s).changes)) ≤ 2 ^ 124
 moved_small run s i k x there row inside l =
     let p = run.program in
@@ -146,7 +146,7 @@ moved_fits run s i k x there row inside l =
     fits_from_abs (activity run.program.entries x i +ℤ sum_z (move_of (core_data run.program) x i) (take k (scenario_at run s).changes)) (omega (arith, moved_small run s i k x there row inside l))
 
 -- the part of an entry that is small
-pub small_abs : (x : List ℤ) (i : ℕ) (e : Entry) → IsSmallPart x i e → unsigned_abs (activity_part x i e) ≤ 2 ^ 122
+small_abs : (x : List ℤ) (i : ℕ) (e : Entry) → IsSmallPart x i e → unsigned_abs (activity_part x i e) ≤ 2 ^ 122
 small_abs x i e small = by_test (e.row == i) refl
   where
     by_test : (t : Bool) → (e.row == i) ≡ t → unsigned_abs (if t then e.value *ℤ number_at x e.column else pos 0) ≤ 2 ^ 122

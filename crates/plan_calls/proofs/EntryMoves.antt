@@ -1,7 +1,7 @@
 -- The activity of a row in a scenario is the core's, moved by each change.
 
 use Rattle.std.proofs.Common.{arith, refl, sym, ap, ◌∙◌, ◌≡◌, ℕ, ◌<◌, ◌==◌, Bool, true, false, List, [], ◌∷◌, ℤ, pos, ◌+ℤ◌, ◌-ℤ◌, ◌*ℤ◌, if◌then◌else◌}
-use Rattle.std.specs.Prelude.{find, unwrap_or, Option, Some, None}
+use Rattle.std.specs.Prelude.{find, Option, Some, None}
 use Rattle.std.specs.List.{AllByRecursion, fold}
 use Rattle.std.proofs.lemmas.Int.{ints}
 use Rattle.base_words.specs.ListSums.{sum_z}

@@ -1,6 +1,6 @@
 -- Where no place fails the points are a plan, and where one fails they aren't.
 
-use Rattle.std.proofs.Common.{arith, refl, sym, ap, subst, ◌∙◌, ◌≡◌, ℕ, ◌<◌, ◌==◌, Bool, true, false, length, get_or, int_le, Option, Some, None, Result, Ok, Err, OnOk, OnErr, if◌then◌else◌}
+use Rattle.std.proofs.Common.{arith, refl, sym, ap, subst, ◌∙◌, ◌≡◌, ℕ, ◌<◌, Bool, true, false, length, get_or, int_le, Option, Some, None, Result, Ok, Err, OnOk, OnErr, if◌then◌else◌}
 use Rattle.std.specs.List.{Contains, range_with_len}
 use Rattle.std.specs.Option.{option_or}
 use Rattle.std.specs.Ordering.{int_eq}
@@ -11,8 +11,8 @@ use Rattle.std.proofs.lemmas.List.Elements.{All-contains, All-from_recursion, Co
 use Rattle.std.proofs.lemmas.List.FromFn.{get_or-range_with_len, length-range_with_len}
 use Rattle.base_words.specs.FirstAnswers.{first_some}
 use Rattle.base_words.proofs.Comparisons.{both, both_left, both_right, most_from_test, test_from_most}
-use Rattle.base_words.proofs.FirstAnswers.{first_some-all_none, first_some-none}
-use Rattle.base_words.proofs.NumberTests.{same_from_test}
+use Rattle.base_words.proofs.FirstAnswers.{first_some-all_none, first_some-none, left_none, right_none}
+use Rattle.base_words.proofs.NumberTests.{same_from_test, test_from_same}
 use Rattle.boxed_problem.specs.BoxedFacts.{limits_at}
 use Rattle.boxed_problem.specs.Optimum.{Feasible}
 use Rattle.boxed_problem.specs.Points.{InBox}
@@ -33,15 +33,7 @@ use Rattle.plan_calls.specs.declared.failure.NoPlan.{NoPlan}
 use Rattle.plan_calls.specs.declared.failure.NoPlan.TheVariants.{Outside, Row, Split}
 use Rattle.plan_calls.proofs.PlanValues.{columns_long}
 
-left_none : {B : Type 0} (a b : Option B) → option_or a b ≡ None → a ≡ None
-left_none None b h = refl
-left_none (Some v) b h = absurd (let x = h in cc)
-
-right_none : {B : Type 0} (a b : Option B) → option_or a b ≡ None → b ≡ None
-right_none None b h = h
-right_none (Some v) b h = absurd (let x = h in cc)
-
-pub both_none : {B : Type 0} (a b : Option B) → a ≡ None → b ≡ None → option_or a b ≡ None
+both_none : {B : Type 0} (a b : Option B) → a ≡ None → b ≡ None → option_or a b ≡ None
 both_none a b h k = ap (λ o. option_or o b) h ∙ k
 
 -- a test that tells nothing holds, and one that holds tells nothing
@@ -49,11 +41,11 @@ silent : {B : Type 0} (t : Bool) (b : B) → (if t then None else Some b) ≡ No
 silent true b h = refl
 silent false b h = absurd (let x = h in cc)
 
-pub holds_silent : {B : Type 0} (t : Bool) (b : B) → t ≡ true → (if t then None else Some b) ≡ None
+holds_silent : {B : Type 0} (t : Bool) (b : B) → t ≡ true → (if t then None else Some b) ≡ None
 holds_silent t b h = ap (λ u. if u then None else Some b) h
 
 -- none of the numbers below n answers
-pub none_below : {B : Type 0} (f : ℕ → Option B) (n : ℕ) → ((k : ℕ) → k < n → f k ≡ None) → first_some f (range_with_len 0 n) ≡ None
+none_below : {B : Type 0} (f : ℕ → Option B) (n : ℕ) → ((k : ℕ) → k < n → f k ≡ None) → first_some f (range_with_len 0 n) ≡ None
 none_below f n h =
     let xs = range_with_len 0 n in
     first_some-none f xs (recursion_from_All (λ k. f k ≡ None) xs (λ k d l. let at : get_or xs k d ≡ k = get_or-range_with_len 0 n k d (omega (arith, l, length-range_with_len 0 n)) ∙ omega arith in ap f at ∙ h k (omega (arith, l, length-range_with_len 0 n))))
@@ -79,9 +71,6 @@ point_feasible run plan s points there none =
       rows = λ i l. silent (meets (limits_at (data_at run s).limits i) (activity_in run plan s i)) (Row s i (activity_in run plan s i)) (number_each (unmet_at run plan s) (length run.program.rows) i rows (omega (arith, l, long)));
     }
 
-stage_test : (a b : ℕ) → a ≡ b → (a == b) ≡ true
-stage_test a b h = grind arith
-
 -- where no node is split, the scenarios of a node have the value of its first one
 node_same : (run : Run) (plan : Plan) (i j s : ℕ) → split run plan ≡ None → i < length run.program.tree.nodes → j < length run.program.columns → stage_of run j ≡ (node_at run i).stage → Contains (scenarios_at run.program.tree.nodes i) s → value_in plan s j ≡ first_value run plan i j
 node_same run plan i j s none node l stage has =
@@ -89,7 +78,7 @@ node_same run plan i j s none node l stage has =
     let ns = scenarios_at run.program.tree.nodes i in
     let in_node = number_each (split_in run plan) (length run.program.tree.nodes) i none node in
     let in_column = number_each (split_at run plan i) (length run.program.columns) j in_node l in
-    let members = ap (λ t. if t then first_some (differs_at plan i j first) ns else None) (sym (stage_test (stage_of run j) (node_at run i).stage stage)) ∙ in_column in
+    let members = ap (λ t. if t then first_some (differs_at plan i j first) ns else None) (sym (test_from_same (stage_of run j) (node_at run i).stage stage)) ∙ in_column in
     let all = All-from_recursion (λ u. differs_at plan i j first u ≡ None) ns (first_some-all_none (differs_at plan i j first) ns members) in
     let own = All-contains (λ u. differs_at plan i j first u ≡ None) ns s all has in
     (Decides-int_eq (value_in plan s j) first).0 (silent (int_eq (value_in plan s j) first) (Split i j first (value_in plan s j)) own)

@@ -15,18 +15,12 @@ use Rattle.boxed_problem.proofs.Magnitudes.{abs-curve, column_fits, column_withi
 use Rattle.sp_model.specs.Changes.{side_of, sides}
 use Rattle.sp_model.specs.Plans.{IsPlan, point_of}
 use Rattle.sp_model.specs.Problems.{data_at, factor_of, problem_in, scenarios}
-use Rattle.sp_model.specs.Reaching.{box_reach}
 use Rattle.sp_model.specs.declared.plan.Plan.{Plan}
 use Rattle.sp_model.specs.declared.run.Run.{Run}
 use Rattle.sp_model.proofs.Bounds.{reach_parts, value_fits}
-use Rattle.sp_model.proofs.DataFacts.{costs_fit, data_keeps}
 use Rattle.sp_model.proofs.Sizes.{size_below-times, times_at, zeros_at}
 use Rattle.sp_model.proofs.CostSpans.{cost_span, plain_span}
 use Rattle.sp_model.proofs.LeastSums.{factors_le}
-
--- the cost of a column times the factor
-pub line_fits : (run : Run) (s j : ℕ) → s < scenarios run → j < length run.program.columns → FitsSigned w128 (factor_of run s *ℤ number_at (data_at run s).costs j)
-line_fits run s j there l = let long = (data_keeps run s there).costs_long in costs_fit run s there j (pos 0) (omega (arith, l, long))
 
 pub line_is : (run : Run) (s j : ℕ) → number_at (problem_in run s).line j ≡ (factor_of run s *ℤ number_at (data_at run s).costs j)
 line_is run s j = times_at (factor_of run s) (data_at run s).costs j
@@ -75,8 +69,8 @@ abbrev pub point_value : Run → Plan → ℕ → ℤ
 point_value run plan s = value_of (problem_in run s) (point_of plan s)
 
 -- the values of the first scenarios together
-pub cost_fits : (run : Run) (plan : Plan) (k : ℕ) → IsPlan run plan → k ≤ scenarios run → FitsSigned w128 (sum_below k (point_value run plan))
-cost_fits run plan k is h =
+pub values_fit : (run : Run) (plan : Plan) (k : ℕ) → IsPlan run plan → k ≤ scenarios run → FitsSigned w128 (sum_below k (point_value run plan))
+values_fit run plan k is h =
     let span = cost_span run.program in
     let factor : ℕ → ℕ = λ s. unsigned_abs (factor_of run s) in
     let each = sum_below-abs k (point_value run plan) (λ s. span * factor s) (λ s l. omega (arith, value_abs run s (point_of plan s) (omega (arith, l, h)) (is.feasible s (omega (arith, l, h))).inside, mul_comm span (factor s))) in

@@ -8,12 +8,12 @@ use Rattle.propagate.proofs.SpanLaws.{pushed_before, pushed_last, pushed_long}
 use Rattle.propagate.specs.declared.changes.Change.{Change}
 use Rattle.propagate.specs.declared.trail.Trail.{Trail}
 
-pub more_long : (cs : List Change) (c : Change) → length (cs ++ c ∷ []) ≡ suc (length cs)
+more_long : (cs : List Change) (c : Change) → length (cs ++ c ∷ []) ≡ suc (length cs)
 more_long [] c = refl
 more_long (d ∷ cs) c = ap suc (more_long cs c)
 
 -- the last change is undone first
-pub back_more : (k : ℕ) (cs : List Change) (c : Change) (sides : List Side) → k ≤ length cs → undone_to k (cs ++ c ∷ []) sides ≡ undone_to k cs (slice_set sides c.column c.old)
+back_more : (k : ℕ) (cs : List Change) (c : Change) (sides : List Side) → k ≤ length cs → undone_to k (cs ++ c ∷ []) sides ≡ undone_to k cs (slice_set sides c.column c.old)
 back_more zero [] c sides l = refl
 back_more (suc k) [] c sides l = absurd (omega arith)
 back_more zero (d ∷ cs) c sides l = ap (λ s. slice_set s d.column d.old) (back_more zero cs c sides (omega arith))
@@ -30,7 +30,7 @@ put_back [] j s = refl
 put_back (t ∷ box) zero s = refl
 put_back (t ∷ box) (suc j) s = ap (λ l. t ∷ l) (put_back box j s)
 
-pub set_past : (box : List Side) (j : ℕ) (s : Side) → length box ≤ j → slice_set box j s ≡ box
+set_past : (box : List Side) (j : ℕ) (s : Side) → length box ≤ j → slice_set box j s ≡ box
 set_past [] j s l = refl
 set_past (t ∷ box) zero s l = absurd (omega arith)
 set_past (t ∷ box) (suc j) s l = ap (λ r. t ∷ r) (set_past box j s (omega arith))
@@ -41,7 +41,7 @@ pub record GoesBack (m : ℕ) (old new : Trail) : Type 0 where
   pub back : (k : ℕ) → k ≤ m → undone_to k new.changes new.sides ≡ undone_to k old.changes old.sides
 
 -- a side that is put in and kept in mind
-pub put_back_to : (old new : Trail) (j : ℕ) (s : Side) → new.changes ≡ old.changes ++ (record { column = j; old = side_at old.sides j }) ∷ [] → new.sides ≡ slice_set old.sides j s → GoesBack (length old.changes) old new
+put_back_to : (old new : Trail) (j : ℕ) (s : Side) → new.changes ≡ old.changes ++ (record { column = j; old = side_at old.sides j }) ∷ [] → new.sides ≡ slice_set old.sides j s → GoesBack (length old.changes) old new
 put_back_to old new j s e d = record {
   more = omega (arith, ap length e, more_long old.changes (record { column = j; old = side_at old.sides j }));
   back = λ k l. ap (λ cs. undone_to k cs new.sides) e
@@ -60,14 +60,14 @@ undo_back_to old new c m e d l =
           ∙ (sym (back_more k new.changes c old.sides (omega (arith, n, p))) ∙ sym (ap (λ cs. undone_to k cs old.sides) e));
     }
 
-pub back_same : (trail : Trail) (m : ℕ) → m ≤ length trail.changes → GoesBack m trail trail
+back_same : (trail : Trail) (m : ℕ) → m ≤ length trail.changes → GoesBack m trail trail
 back_same trail m l = record { more = l; back = λ k h. refl }
 
 pub back_trans : (m n : ℕ) (a b c : Trail) → m ≤ n → GoesBack m a b → GoesBack n b c → GoesBack m a c
 back_trans m n a b c l h k = record { more = omega (arith, k.more); back = λ i j. k.back i (omega arith) ∙ h.back i j }
 
 -- marks that are no later than the changes that go back
-pub marks_back : (m : ℕ) (old new : Trail) → GoesBack m old new → ((k : ℕ) → k < length old.marks → place_at old.marks k ≤ m) → new.marks ≡ old.marks → new.sparse.value ≡ old.sparse.value → KeepsAllMarks old new
+marks_back : (m : ℕ) (old new : Trail) → GoesBack m old new → ((k : ℕ) → k < length old.marks → place_at old.marks k ≤ m) → new.marks ≡ old.marks → new.sparse.value ≡ old.sparse.value → KeepsAllMarks old new
 marks_back m old new b older e same = record {
   count = ap length e;
   each = record {
@@ -93,7 +93,7 @@ before_marks old new h = record {
 }
 
 -- earlier marks, where the others are dropped
-pub drop_marks_kept : (m : ℕ) (old new : Trail) → length new.marks ≡ m → ((k : ℕ) → k < m → place_at new.marks k ≡ place_at old.marks k) → new.sides ≡ old.sides → new.changes ≡ old.changes → new.sparse.value ≡ old.sparse.value → KeepsMarks m old new
+drop_marks_kept : (m : ℕ) (old new : Trail) → length new.marks ≡ m → ((k : ℕ) → k < m → place_at new.marks k ≡ place_at old.marks k) → new.sides ≡ old.sides → new.changes ≡ old.changes → new.sparse.value ≡ old.sparse.value → KeepsMarks m old new
 drop_marks_kept m old new c e s d same = record {
   more = omega (arith, c);
   back = λ k l. ap (λ n. undone_to n new.changes new.sides) (e k l) ∙ (ap (λ cs. undone_to (place_at old.marks k) cs new.sides) d ∙ ap (λ sides. undone_to (place_at old.marks k) old.changes sides) s);
@@ -101,7 +101,7 @@ drop_marks_kept m old new c e s d same = record {
 }
 
 -- the earlier marks, where one more is set
-pub mark_kept : (old new : Trail) (n : ℕ) → new.marks ≡ old.marks ++ n ∷ [] → new.sides ≡ old.sides → new.changes ≡ old.changes → new.sparse.value ≡ old.sparse.value → KeepsMarks (length old.marks) old new
+mark_kept : (old new : Trail) (n : ℕ) → new.marks ≡ old.marks ++ n ∷ [] → new.sides ≡ old.sides → new.changes ≡ old.changes → new.sparse.value ≡ old.sparse.value → KeepsMarks (length old.marks) old new
 mark_kept old new n e s d same = record {
   more = omega (arith, ap length e, pushed_long old.marks n);
   back = λ k l. ap (λ m. undone_to m new.changes new.sides) (ap (λ ms. place_at ms k) e ∙ pushed_before old.marks n 0 k l) ∙ (ap (λ cs. undone_to (place_at old.marks k) cs new.sides) d ∙ ap (λ sides. undone_to (place_at old.marks k) old.changes sides) s);

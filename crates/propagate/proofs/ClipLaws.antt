@@ -1,5 +1,5 @@
 -- Sides cut by a slack.
-use Rattle.std.proofs.Common.{arith, refl, ap, ◌∙◌, ◌≡◌, ℕ, zero, suc, ◌+◌, ◌*◌, ◌^◌, ◌/◌, ◌<◌, ◌≤◌, max, Bool, true, false, ℤ, pos, negsuc, ◌+ℤ◌, ◌-ℤ◌, ◌*ℤ◌, ◌≤ℤ◌, ◌<ℤ◌, int_lt, neg_ℤ, unsigned_abs, FitsSigned, w64}
+use Rattle.std.proofs.Common.{arith, refl, ap, ◌∙◌, ◌≡◌, zero, suc, ◌+◌, ◌*◌, ◌^◌, ◌<◌, ◌≤◌, max, Bool, true, false, ℤ, pos, negsuc, ◌+ℤ◌, ◌-ℤ◌, ◌*ℤ◌, ◌≤ℤ◌, ◌<ℤ◌, int_lt, neg_ℤ, unsigned_abs, FitsSigned, w64}
 use Rattle.std.proofs.lemmas.Int.{ints, clamps, unsigned_abs-mul}
 use Rattle.std.proofs.Math.IntN.{*ℤ_comm}
 use Rattle.std.proofs.Math.Nat.{mul-le-mul_left}
@@ -104,7 +104,7 @@ below_falling v s x slack p l h =
     omega (arith, ints, e, t, o, h)
 
 -- the extent of a side is at most twice its reach
-pub extent_small : (l u : ℤ) → unsigned_abs (u -ℤ l) ≤ 2 * max (unsigned_abs l) (unsigned_abs u)
+extent_small : (l u : ℤ) → unsigned_abs (u -ℤ l) ≤ 2 * max (unsigned_abs l) (unsigned_abs u)
 extent_small (pos l) (pos u) = omega (arith, ints)
 extent_small (pos l) (negsuc u) = omega (arith, ints)
 extent_small (negsuc l) (pos u) = omega (arith, ints)
@@ -130,7 +130,7 @@ pub wider : (x : ℤ) → FitsSigned w64 x → FitsSigned w128 x
 wider x f = grind (arith, ints)
 
 -- on a side of more than one value the product bounds the number
-pub wide_small : (v : ℤ) (s : Side) → s.lower <ℤ s.upper → unsigned_abs v * reach s ≤ 2 ^ 125 → unsigned_abs v ≤ 2 ^ 125
+wide_small : (v : ℤ) (s : Side) → s.lower <ℤ s.upper → unsigned_abs v * reach s ≤ 2 ^ 125 → unsigned_abs v ≤ 2 ^ 125
 wide_small v s w h =
     let e : unsigned_abs (pos 0) * (reach s * reach s) ≡ 0 = grind arith in
     (numbers_small v (pos 0) s (2 ^ 125) w (omega (arith, h, e))).0

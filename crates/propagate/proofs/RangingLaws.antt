@@ -15,7 +15,8 @@ use Rattle.boxed_problem.specs.declared.parts.Side.{Side}
 use Rattle.boxed_problem.proofs.Lying.{side_reach}
 use Rattle.base_words.proofs.Magnitudes.{abs-add, fits_from_abs, abs-less}
 use Rattle.base_words.proofs.NumberTests.{test_from_same}
-use Rattle.propagate.proofs.RangeLaws.{high_part-size, low_part-size}
+use Rattle.boxed_problem.proofs.Narrower.{entry_size-reach}
+use Rattle.propagate.proofs.RangeLaws.{high_part-size, low_part-size, abs-min, abs-max}
 use Rattle.propagate.specs.Ranged.{AreRanges, IsInside, IsTrail, high_end, low_end, moved, no_range, range_at}
 use Rattle.propagate.specs.Spans.{IsBorder, IsSparse, place_at}
 use Rattle.propagate.specs.declared.changes.Change.{Change}
@@ -135,7 +136,7 @@ moving_next n entries old j s k ranges l below here inside are = record {
         record { low = omega (arith, ints, r.low, low, p.0, q.0, a); high = omega (arith, ints, r.high, high, p.1, q.1, b) }
 
 -- a column's entries begin before they end
-pub borders_order : (entries : List Entry) (j from to : ℕ) → IsBorder entries j from → IsBorder entries (j + 1) to → from ≤ to
+borders_order : (entries : List Entry) (j from to : ℕ) → IsBorder entries j from → IsBorder entries (j + 1) to → from ≤ to
 borders_order entries j from to a b = by_order (nat_le from to) refl
   where
     by_order : (t : Bool) → nat_le from to ≡ t → from ≤ to
@@ -156,7 +157,7 @@ column_is entries j from to k a b l m =
     omega (arith, p, q)
 
 -- each entry of the column is between its borders
-pub column_all : (entries : List Entry) (j from to k : ℕ) → IsBorder entries j from → IsBorder entries (j + 1) to → k < length entries → (entry_at entries k).column ≡ j → (from ≤ k) × (k < to)
+column_all : (entries : List Entry) (j from to k : ℕ) → IsBorder entries j from → IsBorder entries (j + 1) to → k < length entries → (entry_at entries k).column ≡ j → (from ≤ k) × (k < to)
 column_all entries j from to k a b l e = (first (nat_le from k) refl, last (nat_le (k + 1) to) refl)
   where
     first : (t : Bool) → nat_le from k ≡ t → from ≤ k
@@ -167,16 +168,12 @@ column_all entries j from to k a b l e = (first (nat_le from k) refl, last (nat_
     last true d = grind arith
     last false d = let m : to ≤ k = grind arith in let p = b.behind k m l in absurd (omega (arith, p, e))
 
-pub inside_reach : (inner outer : Side) → IsInside inner outer → reach inner ≤ reach outer
+inside_reach : (inner outer : Side) → IsInside inner outer → reach inner ≤ reach outer
 inside_reach inner outer h = side_reach inner outer h.lower h.filled h.upper
 
 -- sides within others have parts within the others' magnitudes
 part_grows : (inner outer : List Side) (i : ℕ) (e : Entry) → ((j : ℕ) → IsInside (side_at inner j) (side_at outer j)) → entry_size inner i e ≤ entry_size outer i e
-part_grows inner outer i e h = by_test (e.row == i)
-  where
-    by_test : (t : Bool) → (if t then unsigned_abs e.value * reach (side_at inner e.column) else 0) ≤ (if t then unsigned_abs e.value * reach (side_at outer e.column) else 0)
-    by_test true = mul-le-mul_left (unsigned_abs e.value) (inside_reach (side_at inner e.column) (side_at outer e.column) (h e.column))
-    by_test false = omega arith
+part_grows inner outer i e h = entry_size-reach inner outer i e (inside_reach (side_at inner e.column) (side_at outer e.column) (h e.column))
 
 -- a range on the way is no greater than the row
 pub moving_small : (columns : List Side) (entries : List Entry) (old new : List Side) (k i : ℕ) (range : Range) → ((j : ℕ) → IsInside (side_at old j) (side_at columns j)) → ((j : ℕ) → IsInside (side_at new j) (side_at columns j)) →
@@ -219,13 +216,7 @@ ends_small v s m h =
     let u : unsigned_abs s.upper ≤ reach s = omega arith in
     let a : unsigned_abs (v *ℤ s.lower) ≤ m = omega (arith, unsigned_abs-mul v s.lower, mul-le-mul_left (unsigned_abs v) l, h) in
     let b : unsigned_abs (v *ℤ s.upper) ≤ m = omega (arith, unsigned_abs-mul v s.upper, mul-le-mul_left (unsigned_abs v) u, h) in
-    (lesser (v *ℤ s.lower) (v *ℤ s.upper) m a b, greater (v *ℤ s.lower) (v *ℤ s.upper) m a b)
-  where
-    lesser : (a b : ℤ) (m : ℕ) → unsigned_abs a ≤ m → unsigned_abs b ≤ m → unsigned_abs (int_min a b) ≤ m
-    lesser a b m h k = grind (arith, ints)
-
-    greater : (a b : ℤ) (m : ℕ) → unsigned_abs a ≤ m → unsigned_abs b ≤ m → unsigned_abs (int_max a b) ≤ m
-    greater a b m h k = grind (arith, ints)
+    (abs-min (v *ℤ s.lower) (v *ℤ s.upper) m a b, abs-max (v *ℤ s.lower) (v *ℤ s.upper) m a b)
 
 pub less_more_fit : (a b d : ℤ) → unsigned_abs a ≤ 2 ^ 122 → unsigned_abs b ≤ 2 ^ 122 → unsigned_abs d ≤ 2 ^ 122 → FitsSigned w128 ((a -ℤ b) +ℤ d)
 less_more_fit a b d h k l = fits_from_abs ((a -ℤ b) +ℤ d) (omega (arith, abs-less a b, abs-add (a -ℤ b) d))
@@ -288,7 +279,7 @@ trail_put columns n entries sides changes marks ranges now j s t l i are = recor
 }
 
 -- a trail with one more change in mind
-pub trail_kept : (columns : List Side) (n : ℕ) (entries : List Entry) (sides : List Side) (changes : List Change) (marks : List ℕ) (ranges : List Range) (j : ℕ) → IsTrail columns n entries sides changes marks ranges → j < length sides →
+trail_kept : (columns : List Side) (n : ℕ) (entries : List Entry) (sides : List Side) (changes : List Change) (marks : List ℕ) (ranges : List Range) (j : ℕ) → IsTrail columns n entries sides changes marks ranges → j < length sides →
     IsTrail columns n entries sides (changes ++ (record { column = j; old = side_at sides j }) ∷ []) marks ranges
 trail_kept columns n entries sides changes marks ranges j t l = record {
   long = t.long;
@@ -300,7 +291,7 @@ trail_kept columns n entries sides changes marks ranges j t l = record {
 }
 
 -- what the last change gives back
-pub trail_last : (columns : List Side) (n : ℕ) (entries : List Entry) (sides : List Side) (changes rest : List Change) (last : Change) (marks : List ℕ) (ranges : List Range) → changes ≡ rest ++ last ∷ [] → IsTrail columns n entries sides changes marks ranges →
+trail_last : (columns : List Side) (n : ℕ) (entries : List Entry) (sides : List Side) (changes rest : List Change) (last : Change) (marks : List ℕ) (ranges : List Range) → changes ≡ rest ++ last ∷ [] → IsTrail columns n entries sides changes marks ranges →
     (last.column < length columns) × IsInside last.old (side_at columns last.column)
 trail_last columns n entries sides changes rest last marks ranges e t =
     (all_before (λ c. (c.column < length columns) × IsInside c.old (side_at columns c.column)) rest last (subst (λ cs. All (λ c. (c.column < length columns) × IsInside c.old (side_at columns c.column)) cs) e t.olds)).1
@@ -321,7 +312,7 @@ trail_undone columns n entries sides changes rest last marks ranges now e t olde
     }
 
 -- one mark more, that is the number of changes
-pub trail_marked : (columns : List Side) (n : ℕ) (entries : List Entry) (sides : List Side) (changes : List Change) (marks : List ℕ) (ranges : List Range) (m : ℕ) → IsTrail columns n entries sides changes marks ranges → m ≡ length changes →
+trail_marked : (columns : List Side) (n : ℕ) (entries : List Entry) (sides : List Side) (changes : List Change) (marks : List ℕ) (ranges : List Range) (m : ℕ) → IsTrail columns n entries sides changes marks ranges → m ≡ length changes →
     IsTrail columns n entries sides changes (marks ++ m ∷ []) ranges
 trail_marked columns n entries sides changes marks ranges m t e = record {
   long = t.long;
@@ -348,7 +339,7 @@ trail_marked columns n entries sides changes marks ranges m t e = record {
         omega (arith, e, pushed_last marks m 0 k last, made i (omega (arith, l, b)))
 
 -- the last mark less
-pub trail_dropped : (columns : List Side) (n : ℕ) (entries : List Entry) (sides : List Side) (changes : List Change) (marks rest : List ℕ) (last : ℕ) (ranges : List Range) → marks ≡ rest ++ last ∷ [] → IsTrail columns n entries sides changes marks ranges →
+trail_dropped : (columns : List Side) (n : ℕ) (entries : List Entry) (sides : List Side) (changes : List Change) (marks rest : List ℕ) (last : ℕ) (ranges : List Range) → marks ≡ rest ++ last ∷ [] → IsTrail columns n entries sides changes marks ranges →
     IsTrail columns n entries sides changes rest ranges
 trail_dropped columns n entries sides changes marks rest last ranges e t =
     let s = subst (λ ms. IsTrail columns n entries sides changes ms ranges) e t in

@@ -15,7 +15,7 @@ same_or_not (suc k) (suc j) = elim (same_or_not k j) [
   | inr f ↦ inr (λ e. f (omega (arith, e)))
 ]
 
-pub set_long : (box : List Side) (j : ℕ) (s : Side) → length (slice_set box j s) ≡ length box
+set_long : (box : List Side) (j : ℕ) (s : Side) → length (slice_set box j s) ≡ length box
 set_long [] j s = refl
 set_long (t ∷ box) zero s = refl
 set_long (t ∷ box) (suc j) s = ap suc (set_long box j s)
@@ -32,7 +32,7 @@ set_not_at (t ∷ box) zero (suc k) s n = refl
 set_not_at (t ∷ box) (suc j) zero s n = refl
 set_not_at (t ∷ box) (suc j) (suc k) s n = set_not_at box j k s (λ e. n (ap suc e))
 
-pub set_filled : (box : List Side) (j : ℕ) (s : Side) → Filled box → s.lower ≤ℤ s.upper → Filled (slice_set box j s)
+set_filled : (box : List Side) (j : ℕ) (s : Side) → Filled box → s.lower ≤ℤ s.upper → Filled (slice_set box j s)
 set_filled [] j s f l = tt
 set_filled (t ∷ box) zero s f l = (l, f.1)
 set_filled (t ∷ box) (suc j) s f l = (f.0, set_filled box j s f.1 l)

@@ -40,7 +40,7 @@ pushed_before (y ∷ xs) x d zero l = refl
 pushed_before (y ∷ xs) x d (suc k) l = pushed_before xs x d k (omega arith)
 
 -- what holds of each place holds with one more behind
-pub all_pushed : (P : ℕ → ℕ → Type 0) (xs : List ℕ) (x n : ℕ) → length xs ≡ n → ((k : ℕ) → k < n → P k (place_at xs k)) → P n x → (k : ℕ) → k < n + 1 → P k (place_at (xs ++ x ∷ []) k)
+all_pushed : (P : ℕ → ℕ → Type 0) (xs : List ℕ) (x n : ℕ) → length xs ≡ n → ((k : ℕ) → k < n → P k (place_at xs k)) → P n x → (k : ℕ) → k < n + 1 → P k (place_at (xs ++ x ∷ []) k)
 all_pushed P xs x n e h p k l = by_place (nat_lt k n) refl
   where
     by_place : (t : Bool) → nat_lt k n ≡ t → P k (place_at (xs ++ x ∷ []) k)
@@ -73,10 +73,10 @@ border_next entries j at a most before next = record {
 }
 
 -- the first entry of a row, from one place further down
-pub first_here : (entries : List Entry) (i at : ℕ) → at < length entries → (entry_at entries at).row ≡ i → IsFirst entries i at at
+first_here : (entries : List Entry) (i at : ℕ) → at < length entries → (entry_at entries at).row ≡ i → IsFirst entries i at at
 first_here entries i at l e = record { least = omega arith; most = omega arith; row = λ m. e; none = λ k m n. absurd (omega arith) }
 
-pub first_down : (entries : List Entry) (i at place : ℕ) → ((entry_at entries at).row ≡ i → ⊥) → IsFirst entries i (at + 1) place → IsFirst entries i at place
+first_down : (entries : List Entry) (i at place : ℕ) → ((entry_at entries at).row ≡ i → ⊥) → IsFirst entries i (at + 1) place → IsFirst entries i at place
 first_down entries i at place n f = record {
   least = omega (arith, f.least);
   most = f.most;

@@ -1,5 +1,5 @@
 -- Sides narrowed by the limits of rows.
-use Rattle.std.proofs.Common.{arith, refl, ap, sym, subst, ◌∙◌, ◌≡◌, ℕ, zero, suc, ◌*◌, ◌^◌, ◌==◌, ◌<◌, ◌≤◌, Bool, true, false, not, ◌&&◌, List, [], ◌∷◌, length, slice_set, ℤ, pos, ◌-ℤ◌, ◌*ℤ◌, ◌≤ℤ◌, Some, Result, Ok, Err, OnOk, OnErr, IfErr, unsigned_abs, FitsSigned, if◌then◌else◌}
+use Rattle.std.proofs.Common.{arith, refl, ap, sym, subst, ◌∙◌, ◌≡◌, ℕ, zero, suc, ◌*◌, ◌^◌, ◌==◌, ◌<◌, ◌≤◌, Bool, true, false, ◌&&◌, List, [], ◌∷◌, length, slice_set, ℤ, pos, ◌-ℤ◌, ◌*ℤ◌, ◌≤ℤ◌, Some, Result, Ok, Err, OnOk, OnErr, IfErr, unsigned_abs, FitsSigned, if◌then◌else◌}
 use Rattle.std.proofs.lemmas.Int.{ints}
 use Rattle.std.proofs.Math.Nat.{mul-le-mul_left}
 use Rattle.std.specs.Int.{w128}
@@ -74,7 +74,7 @@ before_tightens m old new h = record {
 }
 
 -- a side put in the place of a column's tightens
-pub put_tightens : (m : Sparse) (old new : Trail) (j : ℕ) (s : Side) → j < length old.sides → IsCut m.rows m.entries old.sides j s → new.sides ≡ slice_set old.sides j s → KeepsAllMarks old new → Tightens m old new
+put_tightens : (m : Sparse) (old new : Trail) (j : ℕ) (s : Side) → j < length old.sides → IsCut m.rows m.entries old.sides j s → new.sides ≡ slice_set old.sides j s → KeepsAllMarks old new → Tightens m old new
 put_tightens m old new j s l cut e marks = record {
   within = subst (λ box. Within box old.sides) (sym e) (set_within old.sides j s l cut.inside.lower cut.inside.filled cut.inside.upper (trail_filled old));
   keeps = λ x i n. let k = cut.keeps x i n in subst (λ box. InBox box x) (sym e) (in_set old.sides j s x l k.0 k.1 i);
@@ -90,18 +90,18 @@ replaced_tightens m old new j s (Err x) l cut e h marks = before_tightens m old 
 pub row_below : (m : Sparse) (t : Trail) (s : m ≡ t.sparse.value) (k : ℕ) → k < length m.entries → (entry_at m.entries k).row < length m.rows
 row_below m t s k l = (m.facts.places k no_entry l).0
 
-pub column_below : (m : Sparse) (t : Trail) (s : m ≡ t.sparse.value) (k : ℕ) → k < length m.entries → (entry_at m.entries k).column < length t.sides
+column_below : (m : Sparse) (t : Trail) (s : m ≡ t.sparse.value) (k : ℕ) → k < length m.entries → (entry_at m.entries k).column < length t.sides
 column_below m t s k l = omega (arith, (m.facts.places k no_entry l).1, (facts_of m t s).long)
 
 -- sides that lie in others do so column by column
-pub inside_of : (sides columns : List Side) → Within sides columns → (j : ℕ) → IsInside (side_at sides j) (side_at columns j)
+inside_of : (sides columns : List Side) → Within sides columns → (j : ℕ) → IsInside (side_at sides j) (side_at columns j)
 inside_of sides columns w j = let a = within_at sides columns w j in record { lower = a.0; filled = filled_at sides w.filled j; upper = a.1 }
 
 reach_within : (inner outer : List Side) (j : ℕ) → Within inner outer → reach (side_at inner j) ≤ reach (side_at outer j)
 reach_within inner outer j w = let a = inside_of inner outer w j in side_reach (side_at inner j) (side_at outer j) a.lower a.filled a.upper
 
 -- a row's range is no greater than the row
-pub range_within : (columns : List Side) (entries : List Entry) (sides : List Side) (i : ℕ) (range : Range) → ((j : ℕ) → IsInside (side_at sides j) (side_at columns j)) → sum_by (entry_size columns i) entries ≤ 2 ^ 122 → IsRange entries sides i range →
+range_within : (columns : List Side) (entries : List Entry) (sides : List Side) (i : ℕ) (range : Range) → ((j : ℕ) → IsInside (side_at sides j) (side_at columns j)) → sum_by (entry_size columns i) entries ≤ 2 ^ 122 → IsRange entries sides i range →
     (unsigned_abs range.low ≤ 2 ^ 122) × (unsigned_abs range.high ≤ 2 ^ 122)
 range_within columns entries sides i range inside fit r =
     let low = fold_summed (low_part sides i) (pos 0) entries in
@@ -111,7 +111,7 @@ range_within columns entries sides i range inside fit r =
     let moving : IsMoving entries sides sides 0 i range = record { low = omega (arith, ints, r.low, low, zl); high = omega (arith, ints, r.high, high, zh) } in
     moving_small columns entries sides sides 0 i range inside inside fit moving
 
-pub range_small : (m : Sparse) (t : Trail) (s : m ≡ t.sparse.value) (i : ℕ) → i < length m.rows → (unsigned_abs (range_at t.ranges i).low ≤ 2 ^ 122) × (unsigned_abs (range_at t.ranges i).high ≤ 2 ^ 122)
+range_small : (m : Sparse) (t : Trail) (s : m ≡ t.sparse.value) (i : ℕ) → i < length m.rows → (unsigned_abs (range_at t.ranges i).low ≤ 2 ^ 122) × (unsigned_abs (range_at t.ranges i).high ≤ 2 ^ 122)
 range_small m t s i l =
     range_within m.columns m.entries t.sides i (range_at t.ranges i) (facts_of m t s).inside (row_small m.columns m.rows m.entries i (m.facts.rows_fit i l)) ((facts_of m t s).are.all i l)
 
@@ -119,12 +119,12 @@ activity_small : (columns : List Side) (entries : List Entry) (sides : List Side
 activity_small columns entries sides i w fit = range_within columns entries sides i (record { low = low_activity entries sides i; high = high_activity entries sides i }) (inside_of sides columns w) fit (record { low = refl; high = refl })
 
 -- a range that doesn't miss the limits
-pub below_upper : (limits : Limits) (low high u : ℤ) → misses limits low high ≡ false → limits.upper ≡ Some u → low ≤ℤ u
+below_upper : (limits : Limits) (low high u : ℤ) → misses limits low high ≡ false → limits.upper ≡ Some u → low ≤ℤ u
 below_upper limits low high u h e =
     let t = both_right (is_above limits.lower high) (is_below limits.upper low) (not_not (is_above limits.lower high && is_below limits.upper low) h) in
     most_from_test low u (subst (λ o. is_below o low ≡ true) e t)
 
-pub above_lower : (limits : Limits) (low high u : ℤ) → misses limits low high ≡ false → limits.lower ≡ Some u → u ≤ℤ high
+above_lower : (limits : Limits) (low high u : ℤ) → misses limits low high ≡ false → limits.lower ≡ Some u → u ≤ℤ high
 above_lower limits low high u h e =
     let t = both_left (is_above limits.lower high) (is_below limits.upper low) (not_not (is_above limits.lower high && is_below limits.upper low) h) in
     most_from_test u high (subst (λ o. is_above o high ≡ true) e t)
@@ -200,10 +200,10 @@ cut_is_below rows entries sides high k u new l row column range lim h = record {
 }
 
 -- the kept range of a row is the row's
-pub low_is : (m : Sparse) (t : Trail) (s : m ≡ t.sparse.value) (i : ℕ) → i < length m.rows → (range_at t.ranges i).low ≤ℤ low_activity m.entries t.sides i
+low_is : (m : Sparse) (t : Trail) (s : m ≡ t.sparse.value) (i : ℕ) → i < length m.rows → (range_at t.ranges i).low ≤ℤ low_activity m.entries t.sides i
 low_is m t s i l = let r = ((facts_of m t s).are.all i l).low in omega (arith, ints, r)
 
-pub high_is : (m : Sparse) (t : Trail) (s : m ≡ t.sparse.value) (i : ℕ) → i < length m.rows → high_activity m.entries t.sides i ≤ℤ (range_at t.ranges i).high
+high_is : (m : Sparse) (t : Trail) (s : m ≡ t.sparse.value) (i : ℕ) → i < length m.rows → high_activity m.entries t.sides i ≤ℤ (range_at t.ranges i).high
 high_is m t s i l = let r = ((facts_of m t s).are.all i l).high in omega (arith, ints, r)
 
 -- the slack fits, and isn't negative where the range doesn't miss the limits
@@ -220,7 +220,7 @@ pub lower_slack : (rows : List Limits) (i : ℕ) (low high u : ℤ) → (limits_
 lower_slack rows i low high u e h = let k = above_lower (limits_at rows i) low high u h e in omega (arith, ints, k)
 
 -- an entry of a trail's row that isn't missed, by the range that the trail keeps
-pub trail_ready : (m : Sparse) (t : Trail) (s : m ≡ t.sparse.value) (k : ℕ) → k < length m.entries →
+trail_ready : (m : Sparse) (t : Trail) (s : m ≡ t.sparse.value) (k : ℕ) → k < length m.entries →
     misses (limits_at m.rows (entry_at m.entries k).row) (low_activity m.entries t.sides (entry_at m.entries k).row) (high_activity m.entries t.sides (entry_at m.entries k).row) ≡ false →
     IsReady m.rows m.entries t.sides k (range_at t.ranges (entry_at m.entries k).row)
 trail_ready m t s k l n =
@@ -264,7 +264,7 @@ tightens_holds b m old new o t =
     let entries = subst (λ entries. KeepsMet b.rows entries old.sides new.sides) o.entries rows in
     record { within = t.within; keeps = entries }
 
-pub missed_of : (b : Problem) (m : Sparse) (sides : List Side) (i : ℕ) → IsOf b m → MissesRow m.rows m.entries sides i → MissesRow b.rows b.entries sides i
+missed_of : (b : Problem) (m : Sparse) (sides : List Side) (i : ℕ) → IsOf b m → MissesRow m.rows m.entries sides i → MissesRow b.rows b.entries sides i
 missed_of b m sides i o h = subst (λ entries. MissesRow b.rows entries sides i) o.entries (subst (λ rows. MissesRow rows m.entries sides i) o.rows h)
 
 -- where a row's range over the new sides misses its limits, the old ones hold no point that meets the rows
@@ -281,7 +281,7 @@ missed_none b old new i h m = λ x k. by_test x k (meets_all b x) refl
     by_test x k false e = refl
 
 -- one narrowing after another
-pub holds_self : (b : Problem) (sides : List Side) → Filled sides → HoldsSame b sides sides
+holds_self : (b : Problem) (sides : List Side) → Filled sides → HoldsSame b sides sides
 holds_self b sides f = record { within = within_self sides f; keeps = λ x i h. i }
 
 pub holds_trans : (b : Problem) (x y z : List Side) → HoldsSame b x y → HoldsSame b y z → HoldsSame b x z
@@ -312,7 +312,7 @@ ready_stays rows entries old new k range w h =
     }
 
 -- what holds of a list's sides where a row is answered as empty
-pub error_none : {T : Type 0} (b : Problem) (old new : List Side) (r : Result T Empty) → HoldsSame b old new → IfErr r (λ e. MissesRow b.rows b.entries new e.row) → IfErr r (λ e. HoldsNone b old)
+error_none : {T : Type 0} (b : Problem) (old new : List Side) (r : Result T Empty) → HoldsSame b old new → IfErr r (λ e. MissesRow b.rows b.entries new e.row) → IfErr r (λ e. HoldsNone b old)
 error_none b old new (Ok x) h e = tt
 error_none b old new (Err fault) h e = missed_none b old new fault.row h e
 
@@ -346,7 +346,7 @@ empty_none b m old new (Err (EmptyRow row)) o h e = missed_none b old new row h 
 empty_none b m old new (Err Memory) o h e = tt
 
 -- a trail that begins keeps its facts
-pub start_trail : (m : Sparse) (sides : List Side) (ranges : List Range) → sides ≡ m.columns → Filled m.columns → AreRanges (length m.rows) m.entries m.columns ranges → IsTrail m.columns (length m.rows) m.entries sides [] [] ranges
+start_trail : (m : Sparse) (sides : List Side) (ranges : List Range) → sides ≡ m.columns → Filled m.columns → AreRanges (length m.rows) m.entries m.columns ranges → IsTrail m.columns (length m.rows) m.entries sides [] [] ranges
 start_trail m sides ranges e f are =
     subst (λ box. IsTrail m.columns (length m.rows) m.entries box [] [] ranges) (sym e) (record {
       long = refl;
@@ -357,6 +357,12 @@ start_trail m sides ranges e f are =
       are = are;
     })
 
+-- a side put where it stands changes nothing
+pub set_same : (box : List Side) (k : ℕ) → slice_set box k (side_at box k) ≡ box
+set_same [] k = refl
+set_same (t ∷ box) zero = refl
+set_same (t ∷ box) (suc k) = ap (λ r. t ∷ r) (set_same box k)
+
 -- a side that is no narrower is the same
 abbrev pub side_with : ℤ → ℤ → Side
 side_with l u = record { lower = l; upper = u }
@@ -366,9 +372,4 @@ set_no_narrower sides j s l u h =
     let low : (side_at sides j).lower ≡ s.lower = omega (arith, ints, h.lower, l) in
     let high : (side_at sides j).upper ≡ s.upper = omega (arith, ints, h.upper, u) in
     let e : side_at sides j ≡ s = ap (λ z. side_with z (side_at sides j).upper) low ∙ ap (λ z. side_with s.lower z) high in
-    sym (put_same sides j) ∙ ap (λ t. slice_set sides j t) e
-  where
-    put_same : (box : List Side) (k : ℕ) → slice_set box k (side_at box k) ≡ box
-    put_same [] k = refl
-    put_same (t ∷ box) zero = refl
-    put_same (t ∷ box) (suc k) = ap (λ r. t ∷ r) (put_same box k)
+    sym (set_same sides j) ∙ ap (λ t. slice_set sides j t) e

@@ -11,7 +11,7 @@ use Rattle.base_words.proofs.Products.{times_between}
 use Rattle.propagate.proofs.RangeLaws.{fold_order}
 
 -- a wider range holds the narrower one
-pub wider_low : (inner outer : List Side) (i : ℕ) (e : Entry) → Within inner outer → low_part outer i e ≤ℤ low_part inner i e
+wider_low : (inner outer : List Side) (i : ℕ) (e : Entry) → Within inner outer → low_part outer i e ≤ℤ low_part inner i e
 wider_low inner outer i e w = by_test (e.row == i)
   where
     by_test : (t : Bool) →
@@ -25,7 +25,7 @@ wider_low inner outer i e w = by_test (e.row == i)
         omega (arith, ints, clamps, p.0, q.0)
     by_test false = omega (arith, ints)
 
-pub wider_high : (inner outer : List Side) (i : ℕ) (e : Entry) → Within inner outer → high_part inner i e ≤ℤ high_part outer i e
+wider_high : (inner outer : List Side) (i : ℕ) (e : Entry) → Within inner outer → high_part inner i e ≤ℤ high_part outer i e
 wider_high inner outer i e w = by_test (e.row == i)
   where
     by_test : (t : Bool) →

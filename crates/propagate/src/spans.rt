@@ -6,7 +6,7 @@ ghost use Rattle.propagate.specs.SparseParts.{IsOf};
 ghost use Rattle.propagate.specs.Spans.{IsBorder, IsFirst, place_at};
 
 use crate::sparse::Sparse;
-use boxed_problem::{Boxed, Entry, Limits, Side};
+use boxed_problem::{Boxed, Entry};
 use std::alloc::{AllocError, Global};
 use wide_num::List;
 

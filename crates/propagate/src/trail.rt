@@ -21,5 +21,6 @@ pub struct Trail {
     pub ranges: List<Range>,
     pub queue: Queue,
     pub sparse: Snapshot<Sparse>,
-    pub ghost facts: { IsTrail sparse.value.columns (length sparse.value.rows) sparse.value.entries sides changes marks ranges },
+    pub ghost facts: { IsTrail sparse.value.columns (length sparse.value.rows)
+        sparse.value.entries sides changes marks ranges },
 }

@@ -1,35 +1,27 @@
 -- The sums of least values of all scenarios, and priced problems, stay small.
 
-use Rattle.std.proofs.Common.{arith, refl, sym, ap, ◌∙◌, ◌≡◌, ℕ, zero, suc, ◌+◌, ◌*◌, ◌^◌, ◌<◌, ◌≤◌, List, length, ℤ, ◌+ℤ◌, unsigned_abs, Option, Some, None}
-use Rattle.std.proofs.lemmas.Int.{ints, unsigned_abs-mul}
-use Rattle.std.proofs.lemmas.List.{length-map}
+use Rattle.std.proofs.Common.{arith, ap, ◌∙◌, ◌≡◌, ℕ, ◌+◌, ◌*◌, ◌^◌, ◌<◌, ◌≤◌, List, length, ℤ, ◌+ℤ◌, unsigned_abs, Some}
 use Rattle.std.proofs.lemmas.List.FromFn.{length-map-range_with_len}
-use Rattle.std.proofs.Math.Nat.{mul-add, mul-le-mul, mul_comm, suc-mul}
-use Rattle.std.specs.Option.{option_and_then, option_map}
-use Rattle.base_words.specs.Sums.{number_at, size_below}
-use Rattle.base_words.proofs.Magnitudes.{abs-add}
-use Rattle.base_words.proofs.SumBounds.{size_below-le}
+use Rattle.std.proofs.Math.Nat.{mul-le-mul}
+use Rattle.base_words.specs.Sums.{number_at}
 use Rattle.boxed_problem.specs.Data.{Problem, problem_of}
-use Rattle.boxed_problem.specs.BoxedFacts.{column_size, IsBoxed, value_size}
+use Rattle.boxed_problem.specs.BoxedFacts.{IsBoxed}
 use Rattle.boxed_problem.specs.declared.problem.Boxed.{Boxed}
-use Rattle.sp_model.specs.Changes.{side_of, sides}
+use Rattle.sp_model.specs.Changes.{sides}
 use Rattle.run_calls.specs.MultiplierTests.{AreSized}
 use Rattle.sp_model.specs.Plans.{multiplier_of, with_prices}
-use Rattle.sp_model.specs.Problems.{data_at, factor_of, least_of, problem_in, scenarios, sum_some}
-use Rattle.sp_model.specs.Reaching.{box_reach, hedge_reach}
+use Rattle.sp_model.specs.Problems.{factor_of, least_of, problem_in, scenarios, sum_some}
+use Rattle.sp_model.specs.Reaching.{hedge_reach}
 use Rattle.sp_model.specs.declared.plan.Multipliers.{Multipliers}
 use Rattle.sp_model.specs.declared.run.Run.{Run}
 use Rattle.sp_model.proofs.ScenarioPoints.{run_filled}
 use Rattle.sp_model.proofs.Bounds.{factor_abs, reach_parts}
 use Rattle.sp_model.proofs.DataFacts.{boxed_is}
-use Rattle.sp_model.proofs.Sizes.{size_below-mono, size_below-times, zeros_at}
 use Rattle.put_words.specs.Objectives.{with_line}
-use Rattle.put_words.specs.NodeSums.{weight_at}
-use Rattle.sp_model.proofs.CostSpans.{cost_span, line_part, line_parts_le}
+use Rattle.sp_model.proofs.CostSpans.{cost_span}
 use Rattle.sp_model.proofs.LeastValues.{least_abs}
 use Rattle.put_words.proofs.Spans.{priced_span}
 use Rattle.sp_model.proofs.LeastSums.{line_room, sum_span}
-use Rattle.base_words.proofs.FirstAnswers.{same_some}
 
 -- the sum of the least values of the first scenarios, with multipliers as prices
 pub dual_small : (run : Run) (multipliers : Multipliers) (k : ℕ) (v : ℤ) → AreSized run multipliers → k ≤ scenarios run → sum_some k (λ s. least_of (with_prices (problem_in run s) (multiplier_of run multipliers s))) ≡ Some v → unsigned_abs v ≤ 2 ^ 121
@@ -41,7 +33,7 @@ dual_small run multipliers k v sized h e =
     omega (arith, bound, line_room run k h, mul-le-mul many same, (reach_parts run).1)
 
 -- a priced problem is one that fits its type
-pub priced_boxed : (run : Run) (multipliers : Multipliers) (s : ℕ) → AreSized run multipliers → s < scenarios run →
+priced_boxed : (run : Run) (multipliers : Multipliers) (s : ℕ) → AreSized run multipliers → s < scenarios run →
     IsBoxed (sides run.program) (problem_in run s).rows (problem_in run s).entries (problem_in run s).constant (with_prices (problem_in run s) (multiplier_of run multipliers s)).line (problem_in run s).square
 priced_boxed run multipliers s sized l =
     let old = boxed_is run s l in
@@ -75,6 +67,6 @@ priced_ready run multipliers s b line sized l e d =
     let square : b.square ≡ (problem_in run s).square = ap (λ (p : Problem). p.square) e in
     rw (columns, rows, entries, constant, d, square) (priced_boxed run multipliers s sized l)
 
-pub priced_same : (run : Run) (multipliers : Multipliers) (s : ℕ) (p : Problem) (line : List ℤ) → p ≡ problem_in run s →
+priced_same : (run : Run) (multipliers : Multipliers) (s : ℕ) (p : Problem) (line : List ℤ) → p ≡ problem_in run s →
     line ≡ (with_prices (problem_in run s) (multiplier_of run multipliers s)).line → with_line p line ≡ with_prices (problem_in run s) (multiplier_of run multipliers s)
 priced_same run multipliers s p line e d = ap (λ (o : Problem). with_line o line) e ∙ ap (λ z. with_line (problem_in run s) z) d

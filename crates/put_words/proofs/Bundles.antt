@@ -77,7 +77,7 @@ stands run s j l h =
     run.facts.tree.once (stage_of run j) s column.early column.late l
 
 -- the scenarios of a node are those of the run
-pub member_below : (run : Run) (i : ℕ) → i < length run.program.tree.nodes → All (λ s. s < scenarios run) (scenarios_at run.program.tree.nodes i)
+member_below : (run : Run) (i : ℕ) → i < length run.program.tree.nodes → All (λ s. s < scenarios run) (scenarios_at run.program.tree.nodes i)
 member_below run i l = (run.facts.tree.nodes i no_node l).there
 
 -- a scenario that stands in a node of the column's stage has this node's scenarios as its bundle

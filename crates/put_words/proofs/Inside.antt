@@ -35,7 +35,7 @@ unfolding hedged_in
 hedged_over run multipliers x s = refl
 
 -- the best point of a scenario lies in the boxes
-pub best_inside : (run : Run) (problems : ℕ → Problem) (points : List (List ℤ)) (s : ℕ) → OverBoxes run problems → AreBests (scenarios run) problems points → s < scenarios run → InBox (sides run.program) (get_or points s [])
+best_inside : (run : Run) (problems : ℕ → Problem) (points : List (List ℤ)) (s : ℕ) → OverBoxes run problems → AreBests (scenarios run) problems points → s < scenarios run → InBox (sides run.program) (get_or points s [])
 best_inside run problems points s over bests l =
     let found = bests.each s l in
     let filled : Filled (problems s).columns = subst Filled (sym (over s)) (run_filled run) in
@@ -48,7 +48,7 @@ few_from_below zero m h = omega arith
 few_from_below (suc n) m h = let l = h n (omega arith) in omega arith
 
 -- there are no more nonleaf columns than columns
-pub nonleaf_few : (run : Run) → run.nonleaf ≤ length run.program.columns
+nonleaf_few : (run : Run) → run.nonleaf ≤ length run.program.columns
 nonleaf_few run = few_from_below run.nonleaf (length run.program.columns) (early_column run)
 
 point_long : (run : Run) (problems : ℕ → Problem) (points : List (List ℤ)) (k : ℕ) (d : List ℤ) → OverBoxes run problems → AreBests (scenarios run) problems points → k < length points → run.nonleaf ≤ length (get_or points k d)

@@ -15,19 +15,19 @@ use Rattle.sp_model.specs.Plans.{AreBalanced, multiplier_of, stage_of}
 use Rattle.sp_model.specs.Problems.{scenarios}
 use Rattle.sp_model.specs.declared.plan.Multipliers.{Multipliers}
 use Rattle.sp_model.specs.declared.run.Run.{Run}
-use Rattle.base_words.proofs.NumberTests.{test_from_less}
+use Rattle.base_words.proofs.NumberTests.{test_from_less, test_from_same}
 use Rattle.put_words.specs.NextMultipliers.{front_of, last_of, move_in, moved, next_of, no_multipliers, rise}
 use Rattle.put_words.proofs.Bundles.{bundle_is}
 use Rattle.put_words.proofs.Cells.{cell_at}
 
 -- a list that isn't empty is its front and its last item
-pub front_and_last : (ns : List ℕ) → 0 < length ns → ns ≡ front_of ns ++ last_of ns ∷ []
+front_and_last : (ns : List ℕ) → 0 < length ns → ns ≡ front_of ns ++ last_of ns ∷ []
 front_and_last ns l =
     let whole : length ns - 1 + 1 ≡ length ns = omega arith in
     sym (take_all (length ns - 1 + 1) ns (omega arith)) ∙ take_more ns (length ns - 1) 0 (omega arith)
 
 -- an item of the front isn't the last item
-pub front_apart : (ns : List ℕ) (k d : ℕ) → AllPairs (λ a b. a < b) ns → k < length (front_of ns) → (get_or (front_of ns) k d == last_of ns) ≡ false
+front_apart : (ns : List ℕ) (k d : ℕ) → AllPairs (λ a b. a < b) ns → k < length (front_of ns) → (get_or (front_of ns) k d == last_of ns) ≡ false
 front_apart ns k d ascending h =
     let long = length-take (length ns - 1) ns in
     let early : k < length ns - 1 = omega arith in
@@ -39,19 +39,16 @@ front_apart ns k d ascending h =
     differ : (a b : ℕ) → a < b → (a == b) ≡ false
     differ a b l = grind arith
 
-pub moves_zero : (run : Run) (x : List ℤ) (ns : List ℕ) (j : ℕ) → 0 < length ns → AllPairs (λ a b. a < b) ns → sum_z (move_in run x ns j) ns ≡ pos 0
+moves_zero : (run : Run) (x : List ℤ) (ns : List ℕ) (j : ℕ) → 0 < length ns → AllPairs (λ a b. a < b) ns → sum_z (move_in run x ns j) ns ≡ pos 0
 moves_zero run x ns j l ascending =
     let front = front_of ns in
     let last = last_of ns in
     let f : ℕ → ℤ = move_in run x ns j in
     let g : ℕ → ℤ = rise run x ns j in
-    let own : f last ≡ neg_ℤ (sum_z g front) = ap (λ b. if b then neg_ℤ (sum_z g front) else g last) (same last) in
+    let own : f last ≡ neg_ℤ (sum_z g front) = ap (λ b. if b then neg_ℤ (sum_z g front) else g last) (test_from_same last last refl) in
     let others = sum_z-same f g front (recursion_from_All (λ s. f s ≡ g s) front (λ k d h. ap (λ b. if b then neg_ℤ (sum_z g front) else g (get_or front k d)) (front_apart ns k d ascending h))) in
     let whole = ap (sum_z f) (front_and_last ns l) ∙ sum_z-push f front last in
     omega (arith, ints, whole, others, own)
-  where
-    same : (a : ℕ) → (a == a) ≡ true
-    same a = grind arith
 
 -- the next multiplier of a scenario and a nonleaf column
 pub next_at : (run : Run) (multipliers : Multipliers) (x : List ℤ) (s j : ℕ) → s < scenarios run → j < run.nonleaf → multiplier_of run (next_of run multipliers x) s j ≡ moved run multipliers x s j

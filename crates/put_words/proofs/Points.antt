@@ -20,7 +20,7 @@ pub record AreBests (n : ℕ) (problems : ℕ → Problem) (points : List (List 
   pub each : (s : ℕ) → s < n → (best : Best) × (best_of (problems s) ≡ Some best) × (get_or points s [] ≡ best.point)
 
 -- one problem more
-pub bests_more : (n : ℕ) (problems : ℕ → Problem) (front points : List (List ℤ)) (best : Best) → AreBests n problems front → best_of (problems n) ≡ Some best → points ≡ front ++ best.point ∷ [] → AreBests (suc n) problems points
+bests_more : (n : ℕ) (problems : ℕ → Problem) (front points : List (List ℤ)) (best : Best) → AreBests n problems front → best_of (problems n) ≡ Some best → points ≡ front ++ best.point ∷ [] → AreBests (suc n) problems points
 bests_more n problems front points best before e whole = record {
   long = omega (arith, ap length whole, length-append front (best.point ∷ []), before.long);
   each = λ s l. by_last s l (nat_lt s n) refl;

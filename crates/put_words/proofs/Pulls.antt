@@ -12,7 +12,7 @@ use Rattle.std.specs.List.{All, range_with_len, sum_by}
 use Rattle.base_words.specs.Sums.{number_at, size_below}
 use Rattle.base_words.proofs.Magnitudes.{abs-add, abs-less}
 use Rattle.base_words.proofs.Products.{times_order}
-use Rattle.base_words.proofs.SumBounds.{size_below-part}
+use Rattle.base_words.proofs.SumBounds.{size_below-part, size_below-mono, size_below-add}
 use Rattle.boxed_problem.specs.Data.{Problem, problem_of}
 use Rattle.boxed_problem.specs.BoxedFacts.{column_size, IsBoxed, value_size}
 use Rattle.tree_core.specs.Nodes.{IsNode, no_node}
@@ -26,13 +26,13 @@ use Rattle.sp_model.specs.declared.plan.Multipliers.{Multipliers}
 use Rattle.sp_model.specs.declared.run.Run.{Run}
 use Rattle.sp_model.proofs.Bounds.{factor_abs, reach_parts}
 use Rattle.sp_model.proofs.DataFacts.{boxed_is}
-use Rattle.sp_model.proofs.Sizes.{greatest_le, size_below-mono, size_below-times}
+use Rattle.sp_model.proofs.Sizes.{greatest_le, size_below-times}
 use Rattle.put_words.specs.Hedged.{hedged_in, hedged_line, hedged_square, pull}
 use Rattle.put_words.specs.Objectives.{with_objective}
 use Rattle.put_words.specs.NodeSums.{AreInside, bundle, node_for, sum_of, weight_at}
 use Rattle.put_words.proofs.Rises.{floor_abs, node_below, weight_above}
 use Rattle.sp_model.proofs.CostSpans.{cost_span, line_part, line_parts_le}
-use Rattle.put_words.proofs.Spans.{cut_le, sizes_add}
+use Rattle.put_words.proofs.Spans.{cut_le}
 use Rattle.sp_model.proofs.LeastSums.{total_abs_is, weight_size}
 use Rattle.base_words.proofs.NumberTests.{less_from_test}
 use Rattle.put_words.proofs.Weights.{node_sum_abs, weight_sum}
@@ -91,11 +91,11 @@ pull_abs run x s j inside l h =
     omega (arith, bound, ap (λ d. unsigned_abs (int_div_euclid z d)) weight)
 
 -- the linear and the square part of a column
-pub hedged_line_at : (run : Run) (multipliers : Multipliers) (x : List ℤ) (s j : ℕ) → j < length run.program.columns → number_at (hedged_in run multipliers x s).line j ≡ hedged_line run multipliers x s j
+hedged_line_at : (run : Run) (multipliers : Multipliers) (x : List ℤ) (s j : ℕ) → j < length run.program.columns → number_at (hedged_in run multipliers x s).line j ≡ hedged_line run multipliers x s j
 unfolding hedged_in
 hedged_line_at run multipliers x s j h = get_or-map-range_with_len (hedged_line run multipliers x s) 0 (length run.program.columns) j j (pos 0) h (omega arith)
 
-pub hedged_square_at : (run : Run) (multipliers : Multipliers) (x : List ℤ) (s j : ℕ) → j < length run.program.columns → number_at (hedged_in run multipliers x s).square j ≡ hedged_square run s j
+hedged_square_at : (run : Run) (multipliers : Multipliers) (x : List ℤ) (s j : ℕ) → j < length run.program.columns → number_at (hedged_in run multipliers x s).square j ≡ hedged_square run s j
 unfolding hedged_in
 hedged_square_at run multipliers x s j h = get_or-map-range_with_len (hedged_square run s) 0 (length run.program.columns) j j (pos 0) h (omega arith)
 
@@ -150,7 +150,7 @@ hedged_part_le run multipliers x s j sized inside l false e =
     double a m = grind arith
 
 -- the size of a hedged problem
-pub hedged_span : (run : Run) (multipliers : Multipliers) (x : List ℤ) (s : ℕ) → AreSized run multipliers → AreInside run x → s < scenarios run →
+hedged_span : (run : Run) (multipliers : Multipliers) (x : List ℤ) (s : ℕ) → AreSized run multipliers → AreInside run x → s < scenarios run →
     value_size (sides run.program) (pos 0) (hedged_in run multipliers x s).line (hedged_in run multipliers x s).square ≤ 2 ^ 122
 hedged_span run multipliers x s sized inside l =
     let n = length run.program.columns in
@@ -169,7 +169,7 @@ hedged_span run multipliers x s sized inside l =
     let same_hedge : hedge_reach run.program run.options run.total run.nonleaf ≤ hedge_reach run.program run.options run.total run.nonleaf = omega arith in
     let hedge = mul-le-mul one same_hedge in
     let total = (reach_parts run).0 in
-    omega (arith, each, long, sizes_add n doubled cut, size_below-times n 2 (line_part run s), cut_le n run.nonleaf part, line_parts_le run s l, line, total, hedge, (reach_parts run).1)
+    omega (arith, each, long, size_below-add n doubled cut, size_below-times n 2 (line_part run s), cut_le n run.nonleaf part, line_parts_le run s l, line, total, hedge, (reach_parts run).1)
 
 not_negative : (a b : ℤ) → pos 1 ≤ℤ a → pos 1 ≤ℤ b → pos 0 ≤ℤ (a *ℤ b)
 not_negative (pos n) b h k =
@@ -178,7 +178,7 @@ not_negative (pos n) b h k =
 not_negative (negsuc n) b h k = absurd (omega (arith, ints))
 
 -- a hedged problem is one that fits its type
-pub hedged_boxed : (run : Run) (multipliers : Multipliers) (x : List ℤ) (s : ℕ) → AreSized run multipliers → AreInside run x → s < scenarios run →
+hedged_boxed : (run : Run) (multipliers : Multipliers) (x : List ℤ) (s : ℕ) → AreSized run multipliers → AreInside run x → s < scenarios run →
     IsBoxed (sides run.program) (problem_in run s).rows (problem_in run s).entries (pos 0) (map (hedged_line run multipliers x s) (range_with_len 0 (length run.program.columns))) (map (hedged_square run s) (range_with_len 0 (length run.program.columns)))
 unfolding hedged_in
 hedged_boxed run multipliers x s sized inside l =

@@ -69,7 +69,7 @@ weight_above run ns below some =
     let first = get_or ns 0 0 in
     omega (arith, weight_some run first (below 0 0 some), get_or-le-sum_by (weight_size run) ns 0 0 some)
 
-pub rise_abs : (run : Run) (x : List ℤ) (ns : List ℕ) (j s : ℕ) → AreInside run x → All (λ u. u < scenarios run) ns → 0 < length ns → s < scenarios run → j < run.nonleaf →
+rise_abs : (run : Run) (x : List ℤ) (ns : List ℕ) (j s : ℕ) → AreInside run x → All (λ u. u < scenarios run) ns → 0 < length ns → s < scenarios run → j < run.nonleaf →
     unsigned_abs (rise run x ns j s) ≤ weight_size run s * (2 * unsigned_abs run.options.rho * box_reach run.program j)
 rise_abs run x ns j s inside below some l h =
     let u = sum_by (weight_size run) ns in
@@ -136,7 +136,7 @@ within_next run k multipliers x inside old s j l h =
     let own = move_abs run x n j s inside (node_below run s j l h) l h in
     omega (arith, ap unsigned_abs (next_at run multipliers x s j l h), abs-add (multiplier_of run multipliers s j) (move_in run x (bundle run s j) j s), old s j l h, own, suc-mul k step)
 
-pub put_within : (run : Run) (k : ℕ) (made : Made) → put_of run k ≡ Some made → WithinSteps run k made.put.multipliers
+put_within : (run : Run) (k : ℕ) (made : Made) → put_of run k ≡ Some made → WithinSteps run k made.put.multipliers
 put_within run k made e = each_put run (λ n multipliers. WithinSteps run n multipliers) (λ s j l h. let none : unsigned_abs (multiplier_of run (no_multipliers run) s j) ≡ 0 = ap unsigned_abs (nothing_at run s j) in omega arith) (λ n multipliers x inside old. within_next run n multipliers x inside old) k made e
 
 pub put_sized : (run : Run) (k : ℕ) (made : Made) → k ≤ run.options.iterations + 1 → put_of run k ≡ Some made → AreSized run made.put.multipliers

@@ -1,36 +1,25 @@
 -- How great the values of scenario problems become, with multipliers as prices, and hedged.
 
-use Rattle.std.proofs.Common.{arith, refl, sym, ap, ◌∙◌, ◌≡◌, ℕ, zero, suc, ◌+◌, ◌*◌, ◌^◌, ◌<◌, ◌≤◌, nat_le, nat_lt, Bool, true, false, List, length, ℤ, pos, ◌+ℤ◌, ◌*ℤ◌, unsigned_abs, Option, Some, None, if◌then◌else◌}
-use Rattle.std.proofs.lemmas.Int.{ints, unsigned_abs-mul}
+use Rattle.std.proofs.Common.{arith, refl, ap, ◌∙◌, ◌≡◌, ℕ, zero, suc, ◌+◌, ◌*◌, ◌<◌, ◌≤◌, nat_lt, Bool, true, false, length, ℤ, pos, ◌+ℤ◌, ◌*ℤ◌, unsigned_abs, if◌then◌else◌}
+use Rattle.std.proofs.lemmas.Int.{ints}
 use Rattle.std.proofs.lemmas.List.{length-map}
 use Rattle.std.proofs.lemmas.List.FromFn.{get_or-map-range_with_len}
-use Rattle.std.proofs.Math.IntN.{*ℤ-zero}
-use Rattle.std.proofs.Math.Nat.{mul-add, mul-le-mul, mul_assoc, mul_comm}
-use Rattle.std.specs.Option.{option_map}
-use Rattle.base_words.specs.Sums.{number_at, size_below, sum_below}
+use Rattle.std.proofs.Math.Nat.{mul-add, mul-le-mul, mul_comm}
+use Rattle.base_words.specs.Sums.{number_at, size_below}
 use Rattle.base_words.proofs.Magnitudes.{abs-add}
-use Rattle.base_words.proofs.SumBounds.{size_below-le, size_below-part, sum_below-abs}
-use Rattle.boxed_problem.specs.Data.{Problem}
+use Rattle.base_words.proofs.SumBounds.{size_below-le, size_below-mono, size_below-add}
 use Rattle.boxed_problem.specs.BoxedFacts.{column_size, value_size}
-use Rattle.boxed_problem.specs.Objective.{value_of, value_part}
-use Rattle.boxed_problem.specs.Optimum.{best_of, IsBest}
-use Rattle.boxed_problem.specs.Points.{InBox}
-use Rattle.boxed_problem.specs.Sides.{Filled}
-use Rattle.boxed_problem.specs.declared.parts.Best.{Best}
-use Rattle.boxed_problem.proofs.Magnitudes.{abs-curve, column_within}
-use Rattle.boxed_problem.proofs.Optimal.{best_is}
 use Rattle.sp_model.specs.Changes.{side_of, sides}
 use Rattle.run_calls.specs.MultiplierTests.{AreSized, most_at}
 use Rattle.sp_model.specs.Plans.{multiplier_of, with_prices}
-use Rattle.sp_model.specs.Problems.{data_at, factor_of, least_of, problem_in, scenarios}
-use Rattle.sp_model.specs.Reaching.{box_reach, cost_reach, hedge_part, hedge_reach}
+use Rattle.sp_model.specs.Problems.{data_at, factor_of, problem_in, scenarios}
+use Rattle.sp_model.specs.Reaching.{box_reach, hedge_part, hedge_reach}
 use Rattle.sp_model.specs.declared.plan.Multipliers.{Multipliers}
-use Rattle.sp_model.specs.declared.program.Program.{Program}
 use Rattle.sp_model.specs.declared.run.Run.{Run}
 use Rattle.sp_model.proofs.CostSpans.{cost_span, line_part, line_parts_le}
 use Rattle.sp_model.proofs.DataFacts.{data_keeps}
-use Rattle.sp_model.proofs.Sizes.{size_below-mono, size_below-times, times_at, zeros_at}
-use Rattle.base_words.proofs.NumberTests.{less_from_test, none_from_test, some_from_test}
+use Rattle.sp_model.proofs.Sizes.{zeros_at}
+use Rattle.base_words.proofs.NumberTests.{less_from_test}
 
 -- a sum of which only the first parts count
 pub cut_le : (n m : ℕ) (g : ℕ → ℕ) → size_below n (λ j. if nat_lt j m then g j else 0) ≤ size_below m g
@@ -46,10 +35,6 @@ cut_le (suc n) m g = by_test (nat_lt n m) refl (cut_le n m g)
         let below : suc n ≤ m = grind arith in
         omega (arith, size_below-mono n (λ j. if nat_lt j m then g j else 0) g (λ k h. one (nat_lt k m) (g k)), size_below-le (suc n) m g below)
     by_test false e r = omega (arith, r)
-
-pub sizes_add : (n : ℕ) (f g : ℕ → ℕ) → size_below n (λ k. f k + g k) ≡ size_below n f + size_below n g
-sizes_add zero f g = omega arith
-sizes_add (suc n) f g = omega (arith, sizes_add n f g)
 
 -- a column's multiplier times its box: a part of the hedge in a nonleaf column, and 0 in another
 price_part_le : (run : Run) (multipliers : Multipliers) (s j : ℕ) → AreSized run multipliers → s < scenarios run → unsigned_abs (multiplier_of run multipliers s j) * box_reach run.program j ≤ (if nat_lt j run.nonleaf then hedge_part run.program run.options run.total j else 0)
@@ -91,4 +76,4 @@ priced_span run multipliers s sized l =
     let flat = ap (λ z. unsigned_abs z * (m * m)) (zeros_at costs j) in
     omega (arith, ap (λ z. unsigned_abs z * m) (priced_at run multipliers s j h), added, split, flat, price_part_le run multipliers s j sized l)) in
     let long = ap (λ k. size_below k (column_size (sides run.program) line (problem_in run s).square)) (length-map run.program.columns side_of) in
-    omega (arith, each, long, sizes_add n (line_part run s) (λ j. if nat_lt j run.nonleaf then part j else 0), cut_le n run.nonleaf part, line_parts_le run s l)
+    omega (arith, each, long, size_below-add n (line_part run s) (λ j. if nat_lt j run.nonleaf then part j else 0), cut_le n run.nonleaf part, line_parts_le run s l)

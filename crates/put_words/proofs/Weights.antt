@@ -1,20 +1,16 @@
 -- Sums of weights, and of weighted values, over a node and over all scenarios.
 
-use Rattle.std.proofs.Common.{arith, refl, sym, ap, ◌∙◌, ◌≡◌, ℕ, zero, suc, ◌+◌, ◌*◌, ◌<◌, ◌≤◌, List, [], ◌∷◌, length, take, get_or, ℤ, pos, negsuc, ◌*ℤ◌, ◌≤ℤ◌, unsigned_abs}
+use Rattle.std.proofs.Common.{arith, refl, ◌≡◌, ℕ, ◌*◌, ◌<◌, ◌≤◌, List, [], ◌∷◌, get_or, ℤ, pos, ◌*ℤ◌, unsigned_abs}
 use Rattle.std.proofs.lemmas.Int.{ints, unsigned_abs-mul}
-use Rattle.std.proofs.lemmas.List.{take_all}
 use Rattle.std.proofs.lemmas.List.Elements.{recursion_from_All}
-use Rattle.std.proofs.lemmas.List.Sums.{sum_by-cons, sum_by_more}
+use Rattle.std.proofs.lemmas.List.Sums.{sum_by-cons}
 use Rattle.std.proofs.Math.Nat.{mul-le-mul}
 use Rattle.std.specs.List.{All, AllByRecursion, sum_by}
-use Rattle.base_words.specs.ListSums.{sum_z}
-use Rattle.base_words.specs.Sums.{size_below}
 use Rattle.base_words.proofs.ListSums.{sum_z-cons}
 use Rattle.base_words.proofs.Magnitudes.{abs_between}
 use Rattle.sp_model.specs.Changes.{sides}
 use Rattle.sp_model.specs.Problems.{no_scenario, scenarios}
 use Rattle.sp_model.specs.Reaching.{box_reach}
-use Rattle.sp_model.specs.declared.program.Scenario.{Scenario}
 use Rattle.sp_model.specs.declared.run.Run.{Run}
 use Rattle.run_calls.proofs.MemberSums.{sum_abs, sum_by-times}
 use Rattle.boxed_problem.specs.Sides.{side_at}

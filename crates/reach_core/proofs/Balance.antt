@@ -1,6 +1,6 @@
 -- What changes take from the sum of a row and what they give to it.
-use Rattle.std.proofs.Common.{arith, refl, sym, ap, subst, ◌∙◌, ◌≡◌, ℕ, suc, ◌+◌, ◌*◌, ◌≤◌, ◌==◌, Bool, true, false, List, [], ◌∷◌, map, if◌then◌else◌, pos, unsigned_abs}
-use Rattle.std.specs.Prelude.{find, unwrap_or, Option, Some, None}
+use Rattle.std.proofs.Common.{arith, refl, sym, ap, ◌∙◌, ◌≡◌, ℕ, suc, ◌+◌, ◌*◌, ◌≤◌, ◌==◌, Bool, true, false, List, [], ◌∷◌, map, if◌then◌else◌, pos, unsigned_abs}
+use Rattle.std.specs.Prelude.{find, Option, Some, None}
 use Rattle.std.specs.List.{AllByRecursion, AllPairs, fold, sum_by}
 use Rattle.std.proofs.lemmas.List.Elements.{recursion_from_All}
 use Rattle.std.proofs.lemmas.List.Sums.{sum_by-cons}

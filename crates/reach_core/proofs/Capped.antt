@@ -1,25 +1,13 @@
 -- Parts of sums and products may be capped before or after; sums over columns, one more at a time.
-use Rattle.std.proofs.Common.{arith, refl, sym, ◌≡◌, ℕ, ◌+◌, ◌*◌, ◌≤◌, ◌^◌, max, ap, ◌∙◌, add-one, List, [], ◌∷◌, ◌++◌, map}
+use Rattle.std.proofs.Common.{arith, refl, sym, ◌≡◌, ℕ, ◌+◌, ◌*◌, ◌^◌, max, ap, ◌∙◌, add-one, List, [], ◌∷◌, ◌++◌, map}
 use Rattle.std.specs.List.{fold, range_with_len}
 use Rattle.std.proofs.lemmas.List.{map-append}
 use Rattle.std.proofs.Math.Nat.{mul_assoc, mul_comm}
 use Rattle.base_words.specs.Sums.{size_below}
 use Rattle.base_words.proofs.ListSumsByNumber.{range_more}
-use Rattle.capped_num.proofs.Capping.{cap_factor, max_of_capped, own_capped, product_of_capped, sum_of_capped}
+use Rattle.capped_num.proofs.Capping.{cap_factor, max_of_capped, sum_of_capped}
 use Rattle.capped_num.specs.Capped.{capped}
 use Rattle.sp_model.specs.Reaching.{greatest}
-
-pub product_capped : (a b x y : ℕ) → x ≡ capped a → y ≡ capped b → capped (x * y) ≡ capped (a * b)
-product_capped = product_of_capped
-
-pub sum_capped : (a b x y : ℕ) → x ≡ capped a → y ≡ capped b → capped (x + y) ≡ capped (a + b)
-sum_capped = sum_of_capped
-
-pub max_capped : (a b x y : ℕ) → x ≡ capped a → y ≡ capped b → max x y ≡ capped (max a b)
-max_capped = max_of_capped
-
-pub self_capped : (a : ℕ) → a ≤ 2 ^ 127 → a ≡ capped a
-self_capped = own_capped
 
 -- a factor or a part that isn't capped
 pub product_with : (a b x y : ℕ) → x ≡ capped a → y ≡ b → capped (x * y) ≡ capped (a * b)

@@ -18,11 +18,12 @@ use Rattle.sp_model.specs.declared.program.Program.{Program}
 use Rattle.sp_model.specs.declared.program.Scenario.{Scenario}
 use Rattle.sp_model.proofs.Lengths.{costs_kept, limits_kept}
 use Rattle.reach_core.specs.Greatest.{cost_size, sums_of, tops_of, with_part}
-use Rattle.reach_core.proofs.Capped.{product_by, sum_capped}
+use Rattle.reach_core.proofs.Capped.{product_by}
 use Rattle.base_words.proofs.Made.{changed, is_made, made_at}
+use Rattle.capped_num.proofs.Capping.{sum_of_capped}
 
 -- lengths
-pub data_costs : (p : Program) (s : Scenario) → length (data_of p s).costs ≡ length p.columns
+data_costs : (p : Program) (s : Scenario) → length (data_of p s).costs ≡ length p.columns
 unfolding data_of
 data_costs p s = costs_kept (core_data p) s.changes ∙ length-map p.columns (λ (c : Column). c.cost)
 
@@ -48,7 +49,7 @@ sums_next p es k e before after lt at was row step =
     let y = capped (slice_index (sums_of p (take k es)) e.row + capped part) in
     let there : slice_index (sums_of p (take k es)) e.row ≡ f e.row = made_at f (length p.rows) e.row 0 row in
     let old = sum_by (entry_size (sides p) e.row) (take k es) in
-    let at_row : g e.row ≡ y = ap capped (sum_at p e.row es k e lt at ∙ ap (λ n. old + n) own) ∙ sym (sum_capped old part (slice_index (sums_of p (take k es)) e.row) (capped part) there refl) in
+    let at_row : g e.row ≡ y = ap capped (sum_at p e.row es k e lt at ∙ ap (λ n. old + n) own) ∙ sym (sum_of_capped old part (slice_index (sums_of p (take k es)) e.row) (capped part) there refl) in
     step ∙ (ap (λ l. with_part p l e) was ∙ changed f g (length p.rows) e.row y row at_row (λ j other.
     let off : (e.row == j) ≡ false = differ e.row j (e.row == j) refl other in
     let none : entry_size (sides p) j e ≡ 0 = ap (λ t. if t then unsigned_abs e.value * reach (side_at (sides p) e.column) else 0) off in
@@ -86,6 +87,6 @@ reach_capped p o total nonleaf line hedged raw rows front most l h r w f m =
     let second = 2 * length p.scenarios * hedge_reach p o total nonleaf in
     let third = raw_reach p o total nonleaf in
     let first_is : capped (2 * line) ≡ capped first = product_by 2 (line_reach p o total) line l in
-    let front_is : front ≡ capped (first + second) = f ∙ sum_capped first second (capped (2 * line)) hedged first_is h in
-    let both_is : capped (front + raw) ≡ capped (first + second + third) = sum_capped (first + second) third front raw front_is r in
-    m ∙ (sum_capped (first + second + third) (rows_reach p) (capped (front + raw)) rows both_is w ∙ ap capped (sym (reach_is p o total nonleaf)))
+    let front_is : front ≡ capped (first + second) = f ∙ sum_of_capped first second (capped (2 * line)) hedged first_is h in
+    let both_is : capped (front + raw) ≡ capped (first + second + third) = sum_of_capped (first + second) third front raw front_is r in
+    m ∙ (sum_of_capped (first + second + third) (rows_reach p) (capped (front + raw)) rows both_is w ∙ ap capped (sym (reach_is p o total nonleaf)))

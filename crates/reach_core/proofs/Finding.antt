@@ -1,5 +1,5 @@
 -- The entry of a row and a column among entries in order.
-use Rattle.std.proofs.Common.{arith, refl, ap, subst, ◌∙◌, ◌≡◌, ℕ, zero, suc, ◌<◌, ◌≤◌, ◌==◌, nat_lt, Bool, true, false, ◌&&◌, List, [], ◌∷◌, length, get_or, if◌then◌else◌, ℤ, pos}
+use Rattle.std.proofs.Common.{arith, refl, ap, subst, ◌∙◌, ◌≡◌, ℕ, zero, suc, ◌<◌, ◌≤◌, ◌==◌, Bool, true, false, ◌&&◌, List, [], ◌∷◌, length, get_or, if◌then◌else◌, ℤ, pos}
 use Rattle.std.specs.Prelude.{find, option_map, unwrap_or, Option, Some, None}
 use Rattle.boxed_problem.specs.BoxedFacts.{ComesBefore, no_entry}
 use Rattle.boxed_problem.specs.declared.parts.Entry.{Entry}

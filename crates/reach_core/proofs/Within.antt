@@ -1,21 +1,19 @@
 -- No number of a program is above its reach.
-use Rattle.std.proofs.Common.{arith, refl, sym, ap, subst, ◌∙◌, ◌≡◌, ℕ, zero, suc, ◌+◌, ◌*◌, ◌<◌, ◌≤◌, ◌==◌, max, nat_le, nat_lt, Bool, true, false, List, [], ◌∷◌, map, length, get_or, ℤ, pos, negsuc, ◌≤ℤ◌, unsigned_abs, if◌then◌else◌, Option, Some, None}
+use Rattle.std.proofs.Common.{arith, refl, sym, ap, subst, ◌∙◌, ◌≡◌, ℕ, zero, suc, ◌+◌, ◌*◌, ◌<◌, ◌≤◌, ◌==◌, max, nat_le, nat_lt, Bool, true, false, List, [], ◌∷◌, map, length, get_or, ℤ, pos, unsigned_abs, if◌then◌else◌, Option, Some, None}
 use Rattle.std.specs.Prelude.{find, option_map, unwrap_or}
 use Rattle.std.specs.List.{All, range_with_len, sum_by}
-use Rattle.std.proofs.lemmas.Int.{ints}
 use Rattle.std.proofs.lemmas.List.{get_or-map, get_or_default, length-map}
-use Rattle.std.proofs.lemmas.List.FromFn.{get_or-range_with_len, length-range_with_len}
 use Rattle.std.proofs.lemmas.List.Sums.{get_or-le-sum_by, sum_by-cons}
 use Rattle.std.proofs.Math.Nat.{mul-le-mul}
 use Rattle.base_words.specs.Sums.{number_at, size_below}
 use Rattle.base_words.proofs.SumBounds.{size_below-part}
-use Rattle.boxed_problem.specs.BoxedFacts.{entry_size, limits_at, limits_size, no_limits, row_size}
+use Rattle.boxed_problem.specs.BoxedFacts.{entry_size, limits_at, limits_size, no_limits}
 use Rattle.boxed_problem.specs.Sides.{reach, side_at}
 use Rattle.boxed_problem.specs.declared.parts.Entry.{Entry}
-use Rattle.sp_model.specs.Changes.{Data, all_data, core_data, data_of, limits_of, sides}
+use Rattle.sp_model.specs.Changes.{Data, core_data, data_of, limits_of, sides}
 use Rattle.sp_model.specs.RunFacts.{are_limits, change_reach, change_value, is_change}
 use Rattle.sp_model.specs.Problems.{no_scenario}
-use Rattle.sp_model.specs.Reaching.{box_reach, cost_reach, data_reach, greatest, hedge_reach, line_reach, raw_reach, rows_reach, run_reach}
+use Rattle.sp_model.specs.Reaching.{box_reach, cost_reach, data_reach, greatest, rows_reach, run_reach}
 use Rattle.sp_model.specs.Values.{Has, cell_in, is_cell}
 use Rattle.sp_model.specs.declared.program.Change.{Change}
 use Rattle.sp_model.specs.declared.program.Change.TheVariants.{Cost, Cell, Limits}

@@ -6,8 +6,8 @@ ghost use Rattle.boxed_problem.specs.PriceFit.{FitsPrices};
 ghost use Rattle.boxed_problem.specs.Sides.{Within};
 ghost use Rattle.row_prices.specs.Ascending.{IsAscent};
 
-use crate::parts::{least_place, limits_reach, paid_limit, side_reach};
-use boxed_problem::{Boxed, Entry, Limits, Prices, Side};
+use crate::parts::{least_place, paid_limit, side_reach};
+use boxed_problem::{Boxed, Entry, Limits, Prices, Side, limits_reach};
 use safe_bound::{Reduced, reduce_by};
 use std::alloc::AllocError;
 use wide_num::List;

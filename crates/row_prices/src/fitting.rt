@@ -6,8 +6,8 @@ ghost use Rattle.boxed_problem.specs.PriceFit.{FitsPrices, HasSign, price_size};
 ghost use Rattle.base_words.specs.Sums.{number_at, size_below};
 ghost use Rattle.safe_bound.specs.PriceWeights.{limit_weight, weight};
 
-use crate::parts::{is_allowed, limits_reach, part_size, side_reach};
-use boxed_problem::{Boxed, Entry, Prices};
+use crate::parts::{is_allowed, part_size, side_reach};
+use boxed_problem::{Boxed, Entry, Prices, limits_reach};
 
 /// The greatest magnitude that prices may have.
 const MAX_SIZE: u128 = 1 << 125;

@@ -1,5 +1,4 @@
 ghost use Rattle.std.specs.Prelude.{◌≡◌, ◌+◌, ◌*◌, ◌^◌, ◌≤◌, ◌≤ℤ◌, ◌↔◌, IfSome, IsTrue, true, pos, unsigned_abs};
-ghost use Rattle.boxed_problem.specs.BoxedFacts.{limit_size, limits_size};
 ghost use Rattle.boxed_problem.specs.PriceFit.{HasSign};
 ghost use Rattle.boxed_problem.specs.Sides.{reach};
 
@@ -66,23 +65,4 @@ pub fn paid_limit(limits: Limits, price: i128, up: bool) -> i128 {
         limits.upper
     };
     limit.unwrap_or(0)
-}
-
-/// The magnitude of a limit, 0 where there is none.
-fn limit_reach(limit: Option<i128>) -> u128
-    ensures { result ≡ limit_size limit }
-{
-    match limit {
-        Some(limit) => limit.unsigned_abs(),
-        None => 0,
-    }
-}
-
-/// The greater magnitude of a row's limits.
-pub fn limits_reach(limits: Limits) -> u128
-    ensures { result ≡ limits_size limits }
-{
-    let lower = limit_reach(limits.lower);
-    let upper = limit_reach(limits.upper);
-    if lower < upper { upper } else { lower }
 }

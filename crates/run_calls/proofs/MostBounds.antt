@@ -1,6 +1,6 @@
 -- How great multipliers and their steps become at most, from the reach of a run.
 
-use Rattle.std.proofs.Common.{arith, refl, sym, ap, ◌∙◌, ◌≡◌, ℕ, zero, suc, ◌+◌, ◌*◌, ◌^◌, ◌<◌, ◌≤◌, max, nat_le, nat_lt, Bool, true, false, length, get_or, ℤ, pos, negsuc, neg_ℤ, ◌≤ℤ◌, unsigned_abs}
+use Rattle.std.proofs.Common.{arith, refl, sym, ap, ◌∙◌, ◌≡◌, ℕ, ◌+◌, ◌*◌, ◌^◌, ◌<◌, ◌≤◌, max, nat_le, nat_lt, Bool, true, false, length, get_or, ℤ, pos, negsuc, neg_ℤ, ◌≤ℤ◌, unsigned_abs}
 use Rattle.std.proofs.lemmas.Int.{ints}
 use Rattle.std.proofs.lemmas.List.{get_or-map}
 use Rattle.std.proofs.lemmas.List.Sums.{count_by-le-length}
@@ -11,7 +11,7 @@ use Rattle.sp_model.specs.Changes.{side_of}
 use Rattle.run_calls.specs.MultiplierTests.{most_at}
 use Rattle.sp_model.specs.Plans.{no_column}
 use Rattle.sp_model.specs.Problems.{scenarios}
-use Rattle.sp_model.specs.Reaching.{box_reach, greatest, hedge_part, hedge_reach, line_reach, raw_reach, rows_reach, run_reach, step_reach}
+use Rattle.sp_model.specs.Reaching.{box_reach, hedge_part, hedge_reach, step_reach}
 use Rattle.sp_model.specs.declared.program.Column.{Column}
 use Rattle.sp_model.specs.declared.program.Program.{Program}
 use Rattle.sp_model.specs.declared.run.Run.{Run}
@@ -60,7 +60,7 @@ rate_small run =
 pub part_small : (run : Run) (j : ℕ) → j < length run.program.columns → 2 * unsigned_abs run.options.rho * unsigned_abs run.total * box_reach run.program j ≤ 2 ^ 121
 part_small run j l = omega (arith, mul-le-mul (rate_small run) (box_small run j l))
 
-pub scenarios_few : (run : Run) → scenarios run ≤ 4096
+scenarios_few : (run : Run) → scenarios run ≤ 4096
 scenarios_few run = run.facts.counts.scenarios
 
 pub step_small : (run : Run) (j : ℕ) → j < length run.program.columns → step_reach run.program run.options run.total j < 2 ^ 122

@@ -1,6 +1,6 @@
 -- Where no multiplier is too big all are sized; where no node is out of balance all are balanced.
 
-use Rattle.std.proofs.Common.{arith, refl, sym, ap, ◌∙◌, ◌≡◌, ℕ, ◌≤◌, ◌==◌, nat_lt, ◌&&◌, not, Bool, true, false, length, get_or, ℤ, pos, unsigned_abs, Some, None, if◌then◌else◌}
+use Rattle.std.proofs.Common.{refl, sym, ap, ◌∙◌, ◌≡◌, ℕ, ◌≤◌, nat_lt, ◌&&◌, not, Bool, true, false, length, get_or, ℤ, pos, unsigned_abs, Some, None, if◌then◌else◌}
 use Rattle.std.proofs.lemmas.Bool.Decides.{Decides-int_eq}
 use Rattle.std.proofs.lemmas.List.{get_or_default}
 use Rattle.std.specs.Bool.{Decides}
@@ -14,7 +14,7 @@ use Rattle.sp_model.specs.Plans.{AreBalanced, multiplier_of, stage_of}
 use Rattle.sp_model.specs.Problems.{scenarios}
 use Rattle.sp_model.specs.declared.plan.Multipliers.{Multipliers}
 use Rattle.sp_model.specs.declared.run.Run.{Run}
-use Rattle.base_words.proofs.NumberTests.{not_less_from_test}
+use Rattle.base_words.proofs.NumberTests.{not_less_from_test, test_from_same}
 use Rattle.run_calls.proofs.NumberedAnswers.{number_each}
 
 pub none_too_big : (run : Run) (multipliers : Multipliers) → too_big run multipliers ≡ None → AreSized run multipliers
@@ -35,13 +35,10 @@ none_unbalanced run multipliers e i d l j h of_stage =
     let same_node : get_or run.program.tree.nodes i d ≡ node_at run i = get_or_default run.program.tree.nodes i d no_node l in
     let row : unbalanced_in run multipliers i ≡ None = number_each (unbalanced_in run multipliers) (length run.program.tree.nodes) i e l in
     let own : unbalanced_at run multipliers i j ≡ None = number_each (unbalanced_at run multipliers i) run.nonleaf j row h in
-    let at : is_of_stage run i j ≡ true = tested (stage_of run j) (node_at run i).stage (of_stage ∙ ap (λ (n : Node). n.stage) same_node) in
+    let at : is_of_stage run i j ≡ true = test_from_same (stage_of run j) (node_at run i).stage (of_stage ∙ ap (λ (n : Node). n.stage) same_node) in
     let zero : balance_of run multipliers i j ≡ pos 0 = by_test (is_of_stage run i j) at (int_eq (balance_of run multipliers i j) (pos 0)) (Decides-int_eq (balance_of run multipliers i j) (pos 0)) own in
     ap (λ (n : Node). sum_z (λ s. multiplier_of run multipliers s j) n.scenarios) same_node ∙ zero
   where
-    tested : (a b : ℕ) → a ≡ b → (a == b) ≡ true
-    tested a b p = grind arith
-
     by_test : (b : Bool) → b ≡ true → (t : Bool) → Decides t (balance_of run multipliers i j ≡ pos 0) → (if b && not t then Some (balance_fault run multipliers i j) else None) ≡ None → balance_of run multipliers i j ≡ pos 0
     by_test false p t q r = absurd (let x = p in cc)
     by_test true p true q r = q.0 refl

@@ -1,12 +1,12 @@
 -- The first answer that the numbers below n give, number by number.
 
-use Rattle.std.proofs.Common.{arith, refl, sym, ap, ◌∙◌, ◌≡◌, ℕ, ◌+◌, ◌<◌, add-one, [], ◌∷◌, get_or, Option, Some, None}
+use Rattle.std.proofs.Common.{arith, sym, ap, ◌∙◌, ◌≡◌, ℕ, ◌+◌, ◌<◌, add-one, [], ◌∷◌, get_or, Option, Some, None}
 use Rattle.std.specs.List.{range_with_len}
 use Rattle.std.specs.Option.{option_or}
 use Rattle.std.proofs.lemmas.List.Elements.{All-from_recursion}
 use Rattle.std.proofs.lemmas.List.FromFn.{get_or-range_with_len, length-range_with_len}
 use Rattle.base_words.specs.FirstAnswers.{first_some}
-use Rattle.base_words.proofs.FirstAnswers.{first_some-all_none, first_some-append, first_some-found}
+use Rattle.base_words.proofs.FirstAnswers.{first_some-all_none, first_some-append, first_some-found, option_or_none}
 use Rattle.base_words.proofs.ListSumsByNumber.{range_more, take_range}
 
 -- one number more
@@ -18,11 +18,7 @@ first_next f k none =
     ∙ first_some-append f (range_with_len 0 k) ((0 + k) ∷ [])
     ∙ ap (λ a. option_or a (option_or (f (0 + k)) None)) none
     ∙ ap (λ m. option_or (f m) None) zeroth
-    ∙ last (f k)
-  where
-    last : {B : Type 0} (a : Option B) → option_or a None ≡ a
-    last None = refl
-    last (Some b) = refl
+    ∙ option_or_none (f k)
 
 pub number_none : {B : Type 0} (f : ℕ → Option B) (k : ℕ) → first_some f (range_with_len 0 k) ≡ None → f k ≡ None → first_some f (range_with_len 0 (k + 1)) ≡ None
 number_none f k none own = first_next f k none ∙ own

@@ -10,7 +10,7 @@ use Rattle.run_words.specs.declared.given.Given.{Given}
 use Rattle.run_words.specs.declared.given.Given.TheVariants.{Never, Once, Again}
 
 -- the numbers below the next one
-pub range_next : (n : ℕ) → range_with_len 0 (n + 1) ≡ range_with_len 0 n ++ n ∷ []
+range_next : (n : ℕ) → range_with_len 0 (n + 1) ≡ range_with_len 0 n ++ n ∷ []
 range_next n =
     let same : 0 + n ≡ n = omega arith in
     ap (range_with_len 0) (add-one n) ∙ range_more 0 n ∙ ap (λ m. range_with_len 0 n ++ m ∷ []) same

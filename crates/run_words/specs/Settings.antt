@@ -14,20 +14,38 @@ pub record Setting : Type 0 where
   pub greatest : ℕ
   pub default : ℕ
 
+-- the greatest number for each option
+abbrev pub max_scale : ℕ
+max_scale = 1000000
+
+abbrev pub max_rho : ℕ
+max_rho = 1000000000
+
+abbrev pub max_iterations : ℕ
+max_iterations = 100000
+
+abbrev pub max_budget : ℕ
+max_budget = 1000000000
+
+abbrev pub max_box : ℕ
+max_box = 1000000000
+
 abbrev pub scale_option : Setting
-scale_option = record { name = codes "--scale"; least = 1; greatest = 1000000; default = 1000 }
+scale_option = record { name = codes "--scale"; least = 1; greatest = max_scale; default = 1000 }
 
 abbrev pub rho_option : Setting
-rho_option = record { name = codes "--rho"; least = 1; greatest = 1000000000; default = 1000 }
+rho_option = record { name = codes "--rho"; least = 1; greatest = max_rho; default = 1000 }
 
 abbrev pub iterations_option : Setting
-iterations_option = record { name = codes "--iterations"; least = 0; greatest = 100000; default = 20 }
+iterations_option =
+    record { name = codes "--iterations"; least = 0; greatest = max_iterations; default = 20 }
 
 abbrev pub budget_option : Setting
-budget_option = record { name = codes "--budget"; least = 1; greatest = 1000000000; default = 1000000 }
+budget_option =
+    record { name = codes "--budget"; least = 1; greatest = max_budget; default = 1000000 }
 
 abbrev pub box_option : Setting
-box_option = record { name = codes "--box"; least = 1; greatest = 1000000000; default = 1000000 }
+box_option = record { name = codes "--box"; least = 1; greatest = max_box; default = 1000000 }
 
 -- all of them
 abbrev pub settings : List Setting

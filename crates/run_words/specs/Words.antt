@@ -28,7 +28,9 @@ request_of command = record {
 
 -- what the first word asks to do
 abbrev pub action_of : List ℕ → Option Action
-action_of word = if bytes_eq word (codes "wait") then Some Wait else (if bytes_eq word (codes "show") then Some Show else None)
+action_of word =
+    if bytes_eq word (codes "wait") then Some Wait
+    else (if bytes_eq word (codes "show") then Some Show else None)
 
 -- a file name doesn't begin with a minus sign (45)
 abbrev pub is_file_name : List ℕ → Bool

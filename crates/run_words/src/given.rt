@@ -1,6 +1,7 @@
 ghost use Rattle.std.specs.Prelude.{◌≡◌, ◌<◌, ◌≤◌, ◌+◌, ◌-◌, ◌/◌, length, map, string_bytes};
-ghost use Rattle.std.specs.Str.{bytes_eq};
 ghost use Rattle.run_words.specs.Settings.{IsBelow, given_by, name_of, pair_count, pairs_before, word_at, with_one};
+
+use wide_num::same;
 
 /// How often an option is given, and as which pair if once.
 #[derive(Clone, Copy, Debug, Drop, PartialEq, Eq)]
@@ -21,13 +22,6 @@ impl Given {
             Given::Again => Given::Again,
         }
     }
-}
-
-/// Whether two texts are the same.
-pub fn same(a: &[u8], b: &[u8]) -> bool
-    ensures { result ≡ bytes_eq a.now b.now }
-{
-    a == b
 }
 
 /// The word at a place; empty past the end.

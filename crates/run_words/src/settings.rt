@@ -1,9 +1,25 @@
 ghost use Rattle.std.specs.Prelude.{◌≡◌, ◌≤◌, ◌<◌, map, string_bytes, IfSome};
 ghost use Rattle.run_words.specs.Numerals.{number_in};
-ghost use Rattle.run_words.specs.Settings.{Setting, are_options, box_option, budget_option, is_option, iterations_option, number_by, number_for, pair_count, rho_option, scale_option, option_value};
+ghost use Rattle.run_words.specs.Settings.{Setting, are_options, box_option, budget_option, is_option, iterations_option, max_box, max_budget, max_iterations, max_rho, max_scale, number_by, number_for, pair_count, rho_option, scale_option, option_value};
 
-use crate::given::{Given, name_of, pair_count, same, times_given, word};
+use crate::given::{Given, name_of, pair_count, times_given, word};
 use crate::numeral::number_in;
+use wide_num::same;
+
+/// The greatest factor of the costs.
+const MAX_SCALE: u64 = 1_000_000;
+
+/// The greatest penalty.
+const MAX_RHO: u64 = 1_000_000_000;
+
+/// The greatest number of further puts.
+const MAX_ITERATIONS: u64 = 100_000;
+
+/// The greatest number of boxes that a solve opens.
+const MAX_BUDGET: u64 = 1_000_000_000;
+
+/// How far missing ends of boxes lie at most.
+const MAX_BOX: u64 = 1_000_000_000;
 
 // The number of the value of a pair that is there, in this range.
 fn value_in(words: &[String], pair: usize, least: u64, greatest: u64) -> Option<u64>
@@ -35,41 +51,41 @@ fn number(words: &[String], name: &[u8], least: u64, greatest: u64, default: u64
 /// The factor of all costs.
 pub fn scale(words: &[String]) -> Option<u64>
     ensures value { result ≡ number_for scale_option (map string_bytes words.now) }
-    ensures range { IfSome result (λ k. (1 ≤ k) × (k ≤ 1000000)) }
+    ensures range { IfSome result (λ k. (1 ≤ k) × (k ≤ max_scale)) }
 {
-    number(words, b"--scale", 1, 1_000_000, 1000)
+    number(words, b"--scale", 1, MAX_SCALE, 1000)
 }
 
 /// The penalty of the hedging.
 pub fn rho(words: &[String]) -> Option<u64>
     ensures value { result ≡ number_for rho_option (map string_bytes words.now) }
-    ensures range { IfSome result (λ k. (1 ≤ k) × (k ≤ 1000000000)) }
+    ensures range { IfSome result (λ k. (1 ≤ k) × (k ≤ max_rho)) }
 {
-    number(words, b"--rho", 1, 1_000_000_000, 1000)
+    number(words, b"--rho", 1, MAX_RHO, 1000)
 }
 
 /// How many further puts the hub makes at most.
 pub fn iterations(words: &[String]) -> Option<u64>
     ensures value { result ≡ number_for iterations_option (map string_bytes words.now) }
-    ensures range { IfSome result (λ k. (0 ≤ k) × (k ≤ 100000)) }
+    ensures range { IfSome result (λ k. (0 ≤ k) × (k ≤ max_iterations)) }
 {
-    number(words, b"--iterations", 0, 100_000, 20)
+    number(words, b"--iterations", 0, MAX_ITERATIONS, 20)
 }
 
 /// How many boxes a solve opens at most.
 pub fn budget(words: &[String]) -> Option<u64>
     ensures value { result ≡ number_for budget_option (map string_bytes words.now) }
-    ensures range { IfSome result (λ k. (1 ≤ k) × (k ≤ 1000000000)) }
+    ensures range { IfSome result (λ k. (1 ≤ k) × (k ≤ max_budget)) }
 {
-    number(words, b"--budget", 1, 1_000_000_000, 1_000_000)
+    number(words, b"--budget", 1, MAX_BUDGET, 1_000_000)
 }
 
 /// How far missing ends of boxes lie.
 pub fn missing(words: &[String]) -> Option<u64>
     ensures value { result ≡ number_for box_option (map string_bytes words.now) }
-    ensures range { IfSome result (λ k. (1 ≤ k) × (k ≤ 1000000000)) }
+    ensures range { IfSome result (λ k. (1 ≤ k) × (k ≤ max_box)) }
 {
-    number(words, b"--box", 1, 1_000_000_000, 1_000_000)
+    number(words, b"--box", 1, MAX_BOX, 1_000_000)
 }
 
 // Whether a word is the name of an option.

@@ -1,11 +1,13 @@
 ghost use Rattle.std.specs.Prelude.{◌≡◌, ◌≤◌, IfSome, map, option_map, string_bytes};
 ghost use Rattle.sp_model.specs.RunFacts.{OptionFacts};
+ghost use Rattle.run_words.specs.Settings.{max_box};
 ghost use Rattle.run_words.specs.Words.{action_of, command_of, is_command, is_file_name, options_of, options_with, request_of};
 
 use crate::command::{Action, Command};
-use crate::given::{same, word};
+use crate::given::word;
 use crate::settings::{are_options, budget, iterations, missing, rho, scale};
 use sp_model::Options;
+use wide_num::same;
 
 // What the first word asks to do.
 fn action_of(word: &[u8]) -> Option<Action>
@@ -51,7 +53,7 @@ fn is_command(words: &[String]) -> bool
 
 // The options with these numbers; the others have their defaults.
 fn options_with(scale: u64, rho: u64, iterations: u64, budget: u64, missing: u64) -> Options
-    requires { missing ≤ 1000000000 }
+    requires { missing ≤ max_box }
     ensures { result ≡ options_with scale rho iterations budget missing }
 {
     Options {

@@ -7,6 +7,7 @@ use Rattle.std.specs.List.{AllByRecursion, fold, sum_by}
 use Rattle.base_words.proofs.Products.{sum_times, times_sum, zero_times}
 use Rattle.base_words.specs.Sums.{size_below, sum_below}
 use Rattle.base_words.proofs.ListSumsByNumber.{sum_below-same}
+use Rattle.base_words.proofs.SumBounds.{size_below-same, size_below-add}
 
 -- the sum over a list, the parts added to 0 from the left
 abbrev pub list_sum : {E : Type 0} → (E → ℤ) → List E → ℤ
@@ -23,14 +24,6 @@ pub sum_below-times : (a : ℤ) (n : ℕ) (f : ℕ → ℤ) → (a *ℤ sum_belo
 sum_below-times a zero f = times_zero a
 sum_below-times a (suc n) f = omega (arith, ints, sum_below-times a n f, times_sum a (sum_below n f) (f n))
 
-pub size_below-add : (n : ℕ) (f g : ℕ → ℕ) → size_below n (λ k. f k + g k) ≡ size_below n f + size_below n g
-size_below-add zero f g = refl
-size_below-add (suc n) f g = omega (arith, size_below-add n f g)
-
-pub size_below-same : (n : ℕ) (f g : ℕ → ℕ) → ((k : ℕ) → k < n → f k ≡ g k) → size_below n f ≡ size_below n g
-size_below-same zero f g h = refl
-size_below-same (suc n) f g h = omega (arith, h n (omega arith), size_below-same n f g (λ k l. h k (omega arith)))
-
 pub size_below-times : (a n : ℕ) (f : ℕ → ℕ) → a * size_below n f ≡ size_below n (λ k. a * f k)
 size_below-times a zero f = omega arith
 size_below-times a (suc n) f = omega (arith, size_below-times a n f)
@@ -40,7 +33,7 @@ pub fold_from : {E : Type 0} (f : E → ℤ) (a : ℤ) (es : List E) → fold (�
 fold_from f a [] = omega (arith, ints)
 fold_from f a (e ∷ es) = omega (arith, ints, fold_from f (a +ℤ f e) es, fold_from f (pos 0 +ℤ f e) es)
 
-pub list_sum-cons : {E : Type 0} (f : E → ℤ) (e : E) (es : List E) → list_sum f (e ∷ es) ≡ (f e +ℤ list_sum f es)
+list_sum-cons : {E : Type 0} (f : E → ℤ) (e : E) (es : List E) → list_sum f (e ∷ es) ≡ (f e +ℤ list_sum f es)
 list_sum-cons f e es = omega (arith, ints, fold_from f (pos 0 +ℤ f e) es)
 
 pub list_sum-same : {E : Type 0} (f g : E → ℤ) (es : List E) → ((e : E) → f e ≡ g e) → list_sum f es ≡ list_sum g es

@@ -1,7 +1,6 @@
 -- The least of a column's part on a side, and the least of an objective in a box.
 use Rattle.std.proofs.Common.{arith, refl, ap, ◌≡◌, ℕ, zero, suc, ◌+◌, ◌*◌, ◌^◌, ◌<◌, ◌≤◌, Bool, true, false, List, [], ◌∷◌, map, length, ℤ, pos, ◌+ℤ◌, ◌-ℤ◌, ◌≤ℤ◌, ◌<ℤ◌, FitsSigned, if◌then◌else◌, int_lt, unsigned_abs}
 use Rattle.std.proofs.lemmas.Int.{ints, clamps}
-use Rattle.std.proofs.Math.Nat.{mul-le-mul, mul-le-mul_left}
 use Rattle.std.specs.Int.{int_min, w128}
 use Rattle.std.specs.List.{AllByRecursion, fold}
 use Rattle.boxed_problem.specs.BoxedFacts.{column_size, value_size}
@@ -9,12 +8,12 @@ use Rattle.safe_bound.specs.Leasts.{IsLeastAt, least_on, least_part, least_value
 use Rattle.boxed_problem.specs.Objective.{curve, value_of, value_part}
 use Rattle.boxed_problem.specs.Points.{run_from, side_count, side_values}
 use Rattle.boxed_problem.specs.Sides.{Within, corner, reach, side_at}
-use Rattle.base_words.specs.Sums.{number_at, size_below, sum_below}
+use Rattle.base_words.specs.Sums.{number_at, sum_below}
 use Rattle.boxed_problem.specs.declared.parts.Side.{Side}
 use Rattle.boxed_problem.specs.Data.{Problem}
 use Rattle.boxed_problem.proofs.Listing.{count_is}
 use Rattle.boxed_problem.proofs.Narrower.{column_size-within}
-use Rattle.boxed_problem.proofs.Lying.{Lies, Single, single_at, corner_at, filled_at, within_reach}
+use Rattle.boxed_problem.proofs.Lying.{Lies, Single, single_at, corner_at, filled_at}
 use Rattle.base_words.proofs.Magnitudes.{abs-add, abs_between, fits_from_abs}
 use Rattle.boxed_problem.proofs.Magnitudes.{abs-curve, curve_size}
 use Rattle.base_words.proofs.SumBounds.{size_below-le, sum_below-abs}

@@ -85,7 +85,7 @@ column_cost b prices x j =
     by_test e false h = zero_times (number_at x j)
 
 -- what is paid for the rows is what is paid for the columns' units
-pub priced_columns : (b : Problem) (prices : Prices) (x : List ℤ) → All (λ e. (e.row < length b.rows) × (e.column < length b.columns)) b.entries →
+priced_columns : (b : Problem) (prices : Prices) (x : List ℤ) → All (λ e. (e.row < length b.rows) × (e.column < length b.columns)) b.entries →
     priced_activity b prices x ≡ sum_below (length b.columns) (λ j. unit_price b prices j *ℤ number_at x j)
 priced_columns b prices x h =
     sum_below-same (length b.rows) (λ i. number_at prices.values i *ℤ activity b.entries x i) (λ i. list_sum (λ (e : Entry). if e.row == i then entry_cost prices x e else pos 0) b.entries) (λ i l. row_cost b prices x i)
@@ -168,7 +168,7 @@ leasts_below b prices box x e i =
     (λ j l. let m : j < length box = omega (arith, e) in least_on-le (reduced_cost b prices j) (scaled_square b prices j) (side_at box j) (number_at x j) (i.lower j m) (i.upper j m))
 
 -- the total is at most the scale times the objective at each feasible point in the box
-pub total_below : (b : Problem) (prices : Prices) (box : List Side) (x : List ℤ) → All (λ e. (e.row < length b.rows) × (e.column < length b.columns)) b.entries →
+total_below : (b : Problem) (prices : Prices) (box : List Side) (x : List ℤ) → All (λ e. (e.row < length b.rows) × (e.column < length b.columns)) b.entries →
     ((i : ℕ) → i < length b.rows → HasSign (limits_at b.rows i) (number_at prices.values i)) → length box ≡ length b.columns → Feasible b x → InBox box x →
     price_total b prices box ≤ℤ (prices.scale *ℤ value_of b x)
 total_below b prices box x p s e f i =
@@ -178,7 +178,7 @@ total_below b prices box x p s e f i =
     omega (arith, ints, a, l, m)
 
 -- a quotient rounded up is at most a number whose multiple is at least the dividend
-pub ceiling_below : (a s q v : ℤ) → pos 1 ≤ℤ s → IsCeiling a s q → a ≤ℤ (s *ℤ v) → q ≤ℤ v
+ceiling_below : (a s q v : ℤ) → pos 1 ≤ℤ s → IsCeiling a s q → a ≤ℤ (s *ℤ v) → q ≤ℤ v
 ceiling_below a (negsuc n) q v p c h = absurd (omega (arith, ints))
 ceiling_below a (pos n) q v p c h = by_test (int_le q v) refl
   where

@@ -1,6 +1,6 @@
 -- no number that the bound forms is greater than the magnitude of the prices
 
-use Rattle.std.proofs.Common.{arith, refl, ap, sym, ◌∙◌, ◌≡◌, ℕ, zero, suc, ◌+◌, ◌*◌, ◌^◌, ◌<◌, ◌≤◌, ◌==◌, Bool, true, false, List, length, take, get_or, ℤ, pos, negsuc, ◌+ℤ◌, ◌*ℤ◌, ◌≤ℤ◌, int_lt, FitsSigned, Option, Some, None, unsigned_abs, if◌then◌else◌}
+use Rattle.std.proofs.Common.{arith, refl, ap, sym, ◌∙◌, ◌≡◌, ℕ, ◌+◌, ◌*◌, ◌^◌, ◌<◌, ◌≤◌, ◌==◌, Bool, true, false, List, length, take, get_or, ℤ, pos, negsuc, ◌+ℤ◌, ◌*ℤ◌, ◌≤ℤ◌, int_lt, FitsSigned, Option, Some, None, unsigned_abs, if◌then◌else◌}
 use Rattle.std.proofs.lemmas.Int.{ints, unsigned_abs-mul}
 use Rattle.std.proofs.lemmas.List.Elements.{recursion_from_All}
 use Rattle.std.proofs.lemmas.List.Sums.{get_or-le-sum_by, sum_by-take-le}
@@ -18,12 +18,12 @@ use Rattle.boxed_problem.specs.declared.parts.Prices.{Prices}
 use Rattle.boxed_problem.specs.declared.parts.Side.{Side}
 use Rattle.base_words.proofs.Products.{times_order}
 use Rattle.boxed_problem.proofs.Lying.{filled_at, within_reach}
-use Rattle.base_words.proofs.Magnitudes.{abs-add, fits_from_abs, abs-less}
-use Rattle.base_words.proofs.SumBounds.{fold-abs, size_below-le, size_below-part, sum_below-abs}
+use Rattle.base_words.proofs.Magnitudes.{abs-add, fits_from_abs, abs-less, abs_none}
+use Rattle.base_words.proofs.SumBounds.{fold-abs, size_below-le, size_below-part, sum_below-abs, size_below-same, size_below-add, size_below-mono}
 use Rattle.safe_bound.specs.Leasts.{least_on}
 use Rattle.safe_bound.specs.PriceBound.{entry_price, limit_number, limit_price, limit_sum, paid_limit, reduced_cost, reduced_least, scaled_square, unit_price}
 use Rattle.safe_bound.specs.Reducing.{kept_cost, kept_square, reduced_constant}
-use Rattle.safe_bound.proofs.KeyedSums.{by_key_size, list_sum, size_below-add, size_below-same, size_below-times, sum_by-same, sum_by-times}
+use Rattle.safe_bound.proofs.KeyedSums.{by_key_size, list_sum, size_below-times, sum_by-same, sum_by-times}
 use Rattle.safe_bound.proofs.LeastLaws.{least_on-size}
 use Rattle.safe_bound.specs.PriceWeights.{limit_weight, weight}
 
@@ -71,7 +71,7 @@ columns_weigh b prices h =
     omega (arith, p, q, r)
 
 -- the magnitude of the prices, by limits, constant and columns
-pub price_size-is : (b : Problem) (prices : Prices) → Placed b →
+price_size-is : (b : Problem) (prices : Prices) → Placed b →
     (size_below (length b.rows) (limit_weight b prices) + unsigned_abs prices.scale * unsigned_abs b.constant) + size_below (length b.columns) (column_weight b prices) ≡ price_size b prices
 price_size-is b prices h = omega (arith, rows_weigh b prices h, columns_weigh b prices h)
 
@@ -86,7 +86,7 @@ paid_size limits price = by_test (int_lt (pos 0) price)
     by_test true = omega (arith, size limits.lower)
     by_test false = omega (arith, size limits.upper)
 
-pub limit_price-size : (b : Problem) (prices : Prices) (i : ℕ) → unsigned_abs (limit_price b prices i) ≤ limit_weight b prices i
+limit_price-size : (b : Problem) (prices : Prices) (i : ℕ) → unsigned_abs (limit_price b prices i) ≤ limit_weight b prices i
 limit_price-size b prices i =
     let y = number_at prices.values i in
     let p = unsigned_abs-mul y (paid_limit (limits_at b.rows i) y) in
@@ -109,7 +109,7 @@ limit_price-fits b prices i h l f =
 pub scaled_constant-fits : (b : Problem) (prices : Prices) → Placed b → price_size b prices ≤ 2 ^ 125 → FitsSigned w128 (prices.scale *ℤ b.constant)
 scaled_constant-fits b prices h f = fits_from_abs (prices.scale *ℤ b.constant) (omega (arith, unsigned_abs-mul prices.scale b.constant, price_size-is b prices h))
 
-pub constant_size : (b : Problem) (prices : Prices) → unsigned_abs (reduced_constant b prices) ≤ size_below (length b.rows) (limit_weight b prices) + unsigned_abs prices.scale * unsigned_abs b.constant
+constant_size : (b : Problem) (prices : Prices) → unsigned_abs (reduced_constant b prices) ≤ size_below (length b.rows) (limit_weight b prices) + unsigned_abs prices.scale * unsigned_abs b.constant
 constant_size b prices =
     let p = sum_below-abs (length b.rows) (limit_price b prices) (limit_weight b prices) (λ k m. limit_price-size b prices k) in
     let q = unsigned_abs-mul prices.scale b.constant in
@@ -127,12 +127,12 @@ entry_price-size prices j e = by_test (e.column == j)
     by_test true = omega (arith, unsigned_abs-mul (number_at prices.values e.row) e.value)
     by_test false = omega (arith, ints)
 
-pub unit_upto : (b : Problem) (prices : Prices) (j k : ℕ) → unsigned_abs (list_sum (entry_price prices j) (take k b.entries)) ≤ unit_size b prices j
+unit_upto : (b : Problem) (prices : Prices) (j k : ℕ) → unsigned_abs (list_sum (entry_price prices j) (take k b.entries)) ≤ unit_size b prices j
 unit_upto b prices j k =
     let g : Entry → ℕ = λ e. if e.column == j then unsigned_abs (number_at prices.values e.row) * unsigned_abs e.value else 0 in
     omega (arith, fold-abs (entry_price prices j) g (entry_price-size prices j) (pos 0) (take k b.entries), sum_by-take-le g b.entries k)
 
-pub unit_within : (b : Problem) (prices : Prices) (j : ℕ) → unsigned_abs (unit_price b prices j) ≤ unit_size b prices j
+unit_within : (b : Problem) (prices : Prices) (j : ℕ) → unsigned_abs (unit_price b prices j) ≤ unit_size b prices j
 unit_within b prices j =
     let g : Entry → ℕ = λ e. if e.column == j then unsigned_abs (number_at prices.values e.row) * unsigned_abs e.value else 0 in
     omega (arith, fold-abs (entry_price prices j) g (entry_price-size prices j) (pos 0) b.entries)
@@ -151,7 +151,7 @@ unit_weight b prices j =
     by_test e false h = omega arith
 
 -- the magnitude of what column j adds at its reduced cost
-pub reduced_size : (b : Problem) (prices : Prices) (j : ℕ) →
+reduced_size : (b : Problem) (prices : Prices) (j : ℕ) →
     unsigned_abs (reduced_cost b prices j) * reach (side_at b.columns j) + unsigned_abs (scaled_square b prices j) * (reach (side_at b.columns j) * reach (side_at b.columns j)) ≤ column_weight b prices j
 reduced_size b prices j =
     let m = reach (side_at b.columns j) in
@@ -167,7 +167,7 @@ reduced_size b prices j =
     omega (arith, times, squares, unit_weight b prices j)
 
 -- the same at the numbers that are kept
-pub kept_size : (b : Problem) (prices : Prices) (j : ℕ) →
+kept_size : (b : Problem) (prices : Prices) (j : ℕ) →
     unsigned_abs (kept_cost b prices j) * reach (side_at b.columns j) + unsigned_abs (kept_square b prices j) * (reach (side_at b.columns j) * reach (side_at b.columns j)) ≤ column_weight b prices j
 kept_size b prices j = by_test (reach (side_at b.columns j) == 0)
   where
@@ -196,17 +196,13 @@ kept_fits b prices box j h w l f =
 
 -- a column whose box is the single 0 adds nothing
 idle_least : (line square : ℤ) (s : Side) → s.lower ≤ℤ s.upper → reach s ≤ 0 → least_on line square s ≡ pos 0
-idle_least line square s f z = none (least_on line square s) (omega (arith, least_on-size line square s f, p, q))
+idle_least line square s f z = abs_none (least_on line square s) (omega (arith, least_on-size line square s f, p, q))
   where
     p : unsigned_abs line * reach s ≤ unsigned_abs line * 0
     p = mul-le-mul_left (unsigned_abs line) z
 
     q : unsigned_abs square * (reach s * reach s) ≤ unsigned_abs square * (0 * 0)
     q = mul-le-mul_left (unsigned_abs square) (mul-le-mul z z)
-
-    none : (a : ℤ) → unsigned_abs a ≤ 0 → a ≡ pos 0
-    none (pos n) h = omega (arith, ints)
-    none (negsuc n) h = absurd (omega arith)
 
 -- the least at the numbers that are kept is the least at the reduced cost
 pub kept_least : (b : Problem) (prices : Prices) (box : List Side) (j : ℕ) → Within box b.columns → least_on (kept_cost b prices j) (kept_square b prices j) (side_at box j) ≡ reduced_least b prices box j
@@ -237,12 +233,12 @@ total_fits_upto b prices box j h w l f =
     fits_from_abs (reduced_constant b prices +ℤ sum_below j (reduced_least b prices box)) (omega (arith, s, p, t, constant_size b prices, price_size-is b prices h))
 
 -- in a column that isn't the single 0 the price of a unit and the scaled costs fit
-pub unit_small : (b : Problem) (prices : Prices) (j : ℕ) → Placed b → j < length b.columns → 0 < reach (side_at b.columns j) → price_size b prices ≤ 2 ^ 125 → unit_size b prices j ≤ 2 ^ 125
+unit_small : (b : Problem) (prices : Prices) (j : ℕ) → Placed b → j < length b.columns → 0 < reach (side_at b.columns j) → price_size b prices ≤ 2 ^ 125 → unit_size b prices j ≤ 2 ^ 125
 unit_small b prices j h l u f =
     let p : 1 * unit_size b prices j ≤ reach (side_at b.columns j) * unit_size b prices j = mul-le-mul u (omega arith) in
     omega (arith, p, unit_weight b prices j, weight_within b prices j h l)
 
-pub costs_small : (b : Problem) (prices : Prices) (j : ℕ) → Placed b → j < length b.columns → 0 < reach (side_at b.columns j) → price_size b prices ≤ 2 ^ 125 →
+costs_small : (b : Problem) (prices : Prices) (j : ℕ) → Placed b → j < length b.columns → 0 < reach (side_at b.columns j) → price_size b prices ≤ 2 ^ 125 →
     (unsigned_abs prices.scale * unsigned_abs (number_at b.line j) ≤ 2 ^ 125) × (unsigned_abs prices.scale * unsigned_abs (number_at b.square j) ≤ 2 ^ 125)
     × (unsigned_abs prices.scale * unsigned_abs (number_at b.line j) + unit_size b prices j ≤ 2 ^ 125)
 costs_small b prices j h l u f =
@@ -289,7 +285,7 @@ reduced_cost-fits b prices j h l u f =
 pub kept_value : (b : Problem) (prices : Prices) (line square : List ℤ) → Placed b → ((j : ℕ) → j < length b.columns → number_at line j ≡ kept_cost b prices j) → ((j : ℕ) → j < length b.columns → number_at square j ≡ kept_square b prices j) →
     value_size b.columns (reduced_constant b prices) line square ≤ price_size b prices
 kept_value b prices line square h p q =
-    let s = size_below-most (length b.columns) (column_size b.columns line square) (column_weight b prices) each in
+    let s = size_below-mono (length b.columns) (column_size b.columns line square) (column_weight b prices) each in
     omega (arith, s, constant_size b prices, price_size-is b prices h)
   where
     each : (j : ℕ) → j < length b.columns → column_size b.columns line square j ≤ column_weight b prices j
@@ -298,10 +294,6 @@ kept_value b prices line square h p q =
         let a = ap (λ z. unsigned_abs z * m) (p j l) in
         let c = ap (λ z. unsigned_abs z * (m * m)) (q j l) in
         omega (arith, a, c, kept_size b prices j)
-
-    size_below-most : (n : ℕ) (f g : ℕ → ℕ) → ((k : ℕ) → k < n → f k ≤ g k) → size_below n f ≤ size_below n g
-    size_below-most zero f g h = omega arith
-    size_below-most (suc n) f g h = omega (arith, h n (omega arith), size_below-most n f g (λ k l. h k (omega arith)))
 
 -- a scaled square isn't negative
 pub kept_square-positive : (b : Problem) (prices : Prices) (j : ℕ) → pos 1 ≤ℤ prices.scale → pos 0 ≤ℤ number_at b.square j → pos 0 ≤ℤ kept_square b prices j

@@ -51,7 +51,7 @@ run_next es column first end r = record {
     by_place k l false e = let m : k < first = grind arith in let p = r.starts.before k m in omega (arith, p)
 
 -- the entries of the first column begin at the first entry
-pub starts_first : (es : List Entry) → StartsAt es 0 0
+starts_first : (es : List Entry) → StartsAt es 0 0
 starts_first es = record { within = omega arith; before = λ k l. absurd (omega arith); behind = λ k l m. omega arith }
 
 -- parts that are 0 add nothing

@@ -1,12 +1,11 @@
 -- the objective of a reduced problem stays under the scale times the problem's, where the rows are met
 
-use Rattle.std.proofs.Common.{arith, refl, ap, sym, ◌∙◌, ◌≡◌, ◌<◌, ◌≤◌, Bool, true, false, ◌==◌, ℕ, List, length, ℤ, pos, negsuc, ◌+ℤ◌, ◌*ℤ◌, ◌≤ℤ◌, if◌then◌else◌, unsigned_abs}
+use Rattle.std.proofs.Common.{arith, refl, ap, sym, ◌∙◌, ◌≡◌, ◌<◌, ◌≤◌, Bool, true, false, ◌==◌, ℕ, List, length, ℤ, pos, ◌*ℤ◌, ◌≤ℤ◌, if◌then◌else◌}
 use Rattle.std.proofs.lemmas.Int.{ints}
 use Rattle.std.proofs.Math.IntN.{*ℤ-zero}
 use Rattle.std.specs.List.{All}
 use Rattle.boxed_problem.specs.Data.{Problem}
 use Rattle.boxed_problem.specs.Objective.{curve, value_of, value_part}
-use Rattle.boxed_problem.specs.Optimum.{meets_all}
 use Rattle.boxed_problem.specs.Points.{InBox}
 use Rattle.boxed_problem.specs.PriceFit.{FitsPrices}
 use Rattle.boxed_problem.specs.Sides.{reach, side_at}
@@ -14,11 +13,10 @@ use Rattle.base_words.specs.Sums.{number_at, sum_below}
 use Rattle.boxed_problem.specs.declared.parts.Prices.{Prices}
 use Rattle.boxed_problem.specs.declared.parts.Side.{Side}
 use Rattle.boxed_problem.proofs.RowTests.{feasible_from}
-use Rattle.base_words.proofs.Magnitudes.{abs_between}
-use Rattle.base_words.proofs.Products.{zero_times}
+use Rattle.base_words.proofs.Magnitudes.{abs_between, abs_none}
 use Rattle.base_words.proofs.ListSumsByNumber.{sum_below-same}
-use Rattle.safe_bound.specs.PriceBound.{priced_activity, reduced_cost, scaled_square}
-use Rattle.safe_bound.specs.ReducedOf.{IsReduced, IsUnder, reduced_value}
+use Rattle.safe_bound.specs.PriceBound.{reduced_cost, scaled_square}
+use Rattle.safe_bound.specs.ReducedOf.{IsReduced, IsUnder}
 use Rattle.safe_bound.specs.Reducing.{kept_cost, kept_square}
 use Rattle.safe_bound.specs.declared.reduced.Reduced.{Reduced}
 use Rattle.safe_bound.proofs.PriceLaws.{by_columns, limits_below}
@@ -30,11 +28,7 @@ curve_zero line square x e =
 
 -- a value on a side that reaches nowhere is 0
 at_zero : (s : Side) (x : ℤ) → reach s ≡ 0 → s.lower ≤ℤ x → x ≤ℤ s.upper → x ≡ pos 0
-at_zero s x e l u = none x (omega (arith, e, abs_between s.lower s.upper x l u))
-  where
-    none : (a : ℤ) → unsigned_abs a ≤ 0 → a ≡ pos 0
-    none (pos n) h = omega (arith, ints)
-    none (negsuc n) h = absurd (omega arith)
+at_zero s x e l u = abs_none x (omega (arith, e, abs_between s.lower s.upper x l u))
 
 -- at a point of the box the numbers that are kept give what the reduced costs give
 kept_curve : (b : Problem) (prices : Prices) (x : List ℤ) (j : ℕ) → InBox b.columns x → j < length b.columns →

@@ -1,12 +1,10 @@
 -- Where a parabola is least on a side: at the place nearest to its vertex.
-use Rattle.std.proofs.Common.{arith, refl, ap, sym, subst, ◌≡◌, ℕ, zero, suc, ◌+◌, ◌*◌, ◌^◌, ◌/◌, ◌<◌, ◌≤◌, max, ℤ, pos, negsuc, ◌+ℤ◌, ◌-ℤ◌, ◌*ℤ◌, ◌≤ℤ◌, ◌<ℤ◌, unsigned_abs, int_lt, Bool, true, false}
+use Rattle.std.proofs.Common.{arith, refl, ap, sym, subst, ◌≡◌, ℕ, zero, suc, ◌+◌, ◌*◌, ◌<◌, ◌≤◌, ℤ, pos, negsuc, ◌+ℤ◌, ◌-ℤ◌, ◌*ℤ◌, ◌≤ℤ◌, ◌<ℤ◌, unsigned_abs, int_lt, Bool, true, false}
 use Rattle.std.proofs.lemmas.Int.{ints}
 use Rattle.std.proofs.Math.IntN.{*ℤ_comm}
-use Rattle.std.proofs.Math.Nat.{mul-le-mul_left, mul-le-mul}
 use Rattle.std.specs.Int.{int_div_euclid}
 use Rattle.safe_bound.specs.Leasts.{IsLeastAt, IsNearest, IsVertex}
 use Rattle.boxed_problem.specs.Objective.{curve}
-use Rattle.boxed_problem.specs.Sides.{reach}
 use Rattle.boxed_problem.specs.declared.parts.Side.{Side}
 use Rattle.base_words.proofs.Quotients.{floor_is}
 use Rattle.base_words.proofs.Products.{square_next, times_one, times_order, times_sum, times_turn, zero_times}
@@ -50,7 +48,7 @@ falls line k v h (suc n) y z l e =
     let o = times_one (pos k) in
     omega (arith, ints, r, t, d, s, o, h.low, h.high)
 
-pub vertex_is : (line : ℤ) (k : ℕ) → 0 < k → IsVertex line (pos k) (int_div_euclid (pos k -ℤ line) (pos k +ℤ pos k))
+vertex_is : (line : ℤ) (k : ℕ) → 0 < k → IsVertex line (pos k) (int_div_euclid (pos k -ℤ line) (pos k +ℤ pos k))
 vertex_is line k h =
     let f = floor_is (pos k -ℤ line) (k + k) (omega arith) in
     let v = int_div_euclid (pos k -ℤ line) (pos k +ℤ pos k) in
@@ -89,7 +87,7 @@ nearest_least line (pos k) s v near p h n = record { lower = n.lower; upper = n.
         rises line k v h (unsigned_abs (x -ℤ near)) near x (above_from_test near v f) (distance near x (above_from_test x near e))
 
 -- on a straight line one end is least
-pub straight_least : (line : ℤ) (s : Side) (at : ℤ) → s.lower ≤ℤ at → at ≤ℤ s.upper → ((x : ℤ) → s.lower ≤ℤ x → x ≤ℤ s.upper → (line *ℤ at) ≤ℤ (line *ℤ x)) → IsLeastAt line (pos 0) s at
+straight_least : (line : ℤ) (s : Side) (at : ℤ) → s.lower ≤ℤ at → at ≤ℤ s.upper → ((x : ℤ) → s.lower ≤ℤ x → x ≤ℤ s.upper → (line *ℤ at) ≤ℤ (line *ℤ x)) → IsLeastAt line (pos 0) s at
 straight_least line s at l u h = record { lower = l; upper = u; least = λ x k m. let p = h x k m in omega (arith, ints, p, zero_times (at *ℤ at), zero_times (x *ℤ x)) }
 
 -- a rising line at its lower end, a falling one at its upper end
@@ -108,7 +106,7 @@ falling_least line square s f e h = subst (λ q. IsLeastAt line q s s.upper) (sy
     ordered (negsuc n) h x l u = times_turn n x s.upper u
 
 -- at a single value there is no choice
-pub single_place : (line square : ℤ) (s : Side) → s.lower ≡ s.upper → IsLeastAt line square s s.lower
+single_place : (line square : ℤ) (s : Side) → s.lower ≡ s.upper → IsLeastAt line square s s.lower
 single_place line square s e = record {
   lower = omega (arith, ints);
   upper = omega (arith, ints);

@@ -1,18 +1,14 @@
 -- No two of the entries that are first of their places are of one place.
-use Rattle.std.proofs.Common.{arith, ◌≡◌, ◌<◌, ◌||◌, ℕ, zero, suc, Bool, true, false, if◌then◌else◌, List, [], ◌∷◌, ◌++◌, length, get_or, refl}
+use Rattle.std.proofs.Common.{arith, ◌≡◌, ◌<◌, ℕ, zero, suc, Bool, true, false, if◌then◌else◌, List, [], ◌∷◌, ◌++◌, length, get_or, refl}
 use Rattle.std.specs.List.{AllPairs, fold, list_any}
 use Rattle.std.proofs.lemmas.List.Quantifiers.{all_pairs_push}
-use Rattle.base_words.proofs.Booleans.{or_left}
+use Rattle.base_words.proofs.Booleans.{or_left, or_right}
 use Rattle.stoch_lines.specs.Places.{same_place}
 use Rattle.stoch_lines.specs.declared.places.StochEntry.{StochEntry}
 use Rattle.scenario_lists.specs.Distinct.{first_of_each, has_place, is_of, with_entry}
 
 abbrev Apart : StochEntry → StochEntry → Type 0
 Apart e f = same_place e.place f.place ≡ false
-
-or_right : (a b : Bool) → (a || b) ≡ false → b ≡ false
-or_right true b h = cc
-or_right false b h = h
 
 -- where none passes, the one at a place doesn't
 none_at : {X : Type 0} (p : X → Bool) (xs : List X) → list_any p xs ≡ false → (k : ℕ) (d : X) → k < length xs → p (get_or xs k d) ≡ false

@@ -6,7 +6,7 @@ use Rattle.smps_stoch.specs.declared.stoch.Element.{Element}
 use Rattle.scenario_lists.specs.Combinations.{AreChoices, choices_of, combinations, no_element, realisations_at}
 
 -- the elements from one on
-pub drop_next : (es : List Element) (k : ℕ) → k < length es → drop k es ≡ get_or es k no_element ∷ drop (k + 1) es
+drop_next : (es : List Element) (k : ℕ) → k < length es → drop k es ≡ get_or es k no_element ∷ drop (k + 1) es
 drop_next es k h = rw (add-one) (drop-cons es k no_element h)
 
 -- the combinations from an element on
@@ -14,7 +14,7 @@ pub combinations_next : (es : List Element) (k : ℕ) → k < length es → comb
 combinations_next es k h = ap combinations (drop_next es k h)
 
 -- the choices from an element on
-pub choices_next : (es : List Element) (k r : ℕ) → k < length es → choices_of (drop k es) r ≡ r / combinations (drop (k + 1) es) ∷ choices_of (drop (k + 1) es) (r % combinations (drop (k + 1) es))
+choices_next : (es : List Element) (k r : ℕ) → k < length es → choices_of (drop k es) r ≡ r / combinations (drop (k + 1) es) ∷ choices_of (drop (k + 1) es) (r % combinations (drop (k + 1) es))
 choices_next es k r h = ap (λ rest. choices_of rest r) (drop_next es k h)
 
 -- a number below a product has a positive second factor
@@ -22,12 +22,12 @@ pub factor_positive : (r n m : ℕ) → r < n * m → 0 < m
 factor_positive r n zero h = omega arith
 factor_positive r n (suc m) h = omega arith
 
-pub first_positive : (r n m : ℕ) → r < n * m → 0 < n
+first_positive : (r n m : ℕ) → r < n * m → 0 < n
 first_positive r zero m h = omega arith
 first_positive r (suc n) m h = omega arith
 
 -- its quotient by that is below the first
-pub quotient_below : (r n m : ℕ) → r < n * m → r / m < n
+quotient_below : (r n m : ℕ) → r < n * m → r / m < n
 quotient_below r n m h = (div-lt_iff_lt-mul (factor_positive r n m h)).1 h
 
 -- the choices of one more element are there
@@ -79,7 +79,7 @@ some_combination [] h = omega arith
 some_combination (e ∷ es) h = product_positive (length e.realisations) (combinations es) (h 0 (omega arith)) (some_combination es (λ k k_lt. h (suc k) (omega arith)))
 
 -- so have the elements behind one
-pub behind_positive : (n m : ℕ) → 0 < n * m → 0 < m
+behind_positive : (n m : ℕ) → 0 < n * m → 0 < m
 behind_positive n m h = factor_positive 0 n m h
 
 -- a mark with one more choice still has room for the combinations behind it

@@ -5,7 +5,6 @@ pub mod Digits
 mod Keeping
 mod Marks
 pub mod Nesting
-mod Distinctness
 mod Order
 mod OwnMarks
 mod Rows

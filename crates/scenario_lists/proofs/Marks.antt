@@ -31,5 +31,5 @@ mark_next es cs t k mark len choice lt choices many chosen is room some =
     }
 
 -- the number made so far is small
-pub mark_small : (es : List Element) (cs : List ℕ) (t k mark : ℕ) → IsMark es cs t k mark → mark + 1 ≤ combinations es
+mark_small : (es : List Element) (cs : List ℕ) (t k mark : ℕ) → IsMark es cs t k mark → mark + 1 ≤ combinations es
 mark_small es cs t k mark known = below_whole (mark + 1) (combinations (drop k es)) (combinations es) known.some known.room

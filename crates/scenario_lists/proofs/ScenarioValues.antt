@@ -1,5 +1,5 @@
 -- The value of a place in a scenario is that of the first of its entries, its parent's or its chosen realisation's.
-use Rattle.std.proofs.Common.{arith, refl, sym, subst, ap, ◌∙◌, ◌≡◌, ◌<◌, ◌+◌, ◌&&◌, ◌||◌, ◌==◌, ℕ, zero, suc, Bool, true, false, cond, if◌then◌else◌, get_or, length, List, [], ◌∷◌, ◌++◌, Option, Some, None, find}
+use Rattle.std.proofs.Common.{arith, refl, sym, subst, ap, ◌∙◌, ◌≡◌, ◌<◌, ◌+◌, ◌||◌, ℕ, zero, suc, Bool, true, false, cond, if◌then◌else◌, get_or, length, List, [], ◌∷◌, ◌++◌, Option, Some, None, find}
 use Rattle.std.specs.List.{fold, list_any, range_with_len}
 use Rattle.std.specs.Option.{option_map, option_or}
 use Rattle.std.proofs.lemmas.List.{get_or_append_left, length_push}
@@ -10,40 +10,19 @@ use Rattle.base_words.specs.FirstAnswers.{first_some}
 use Rattle.base_words.specs.Gathered.{gathered}
 use Rattle.base_words.proofs.FirstAnswers.{first_some-append}
 use Rattle.base_words.proofs.ListSumsByNumber.{range_more}
-use Rattle.base_words.proofs.NumberTests.{same_from_test}
-use Rattle.stoch_lines.specs.Places.{same_place}
 use Rattle.stoch_lines.specs.declared.places.StochEntry.{StochEntry}
 use Rattle.stoch_lines.specs.declared.places.StochPlace.{StochPlace}
-use Rattle.stoch_lines.specs.declared.places.StochPlace.TheVariants.{Cost, Cell, Right}
 use Rattle.smps_stoch.specs.LawWords.{value_at_place}
 use Rattle.smps_stoch.specs.StochFacts.{IsEarlier, no_branch}
 use Rattle.smps_stoch.specs.declared.stoch.Branch.{Branch}
 use Rattle.smps_stoch.specs.declared.stoch.Element.{Element}
 use Rattle.smps_stoch.specs.StochData.{no_realisation}
+use Rattle.smps_stoch.proofs.LastEntries.{same_is}
 use Rattle.scenario_lists.specs.Combinations.{chosen_at, entries_at, entries_in, realisations_at}
 use Rattle.scenario_lists.specs.Distinct.{first_of_each, has_place, is_of, with_entry}
 use Rattle.scenario_lists.specs.ScenarioList.{HaveParents, branch_scenarios, inherited, no_scenario, scenario_beside, scenario_in, with_branch}
 use Rattle.scenario_lists.specs.Values.{chosen_value, listed_value, parent_value}
 use Rattle.scenario_lists.specs.declared.data.ScenarioData.{ScenarioData}
-
-pair_left : (a b : Bool) → (a && b) ≡ true → a ≡ true
-pair_left true b h = refl
-pair_left false b h = cc
-
-pair_right : (a b : Bool) → (a && b) ≡ true → b ≡ true
-pair_right true b h = h
-pair_right false b h = cc
-
-one_place : (p q : StochPlace) → same_place p q ≡ true → p ≡ q
-one_place (Cost a) (Cost b) h = ap Cost (same_from_test a b h)
-one_place (Cell a c) (Cell b d) h = ap (λ x. Cell x c) (same_from_test a b (pair_left (a == b) (c == d) h)) ∙ ap (Cell b) (same_from_test c d (pair_right (a == b) (c == d) h))
-one_place (Right a) (Right b) h = ap Right (same_from_test a b h)
-one_place (Cost a) (Cell b d) h = cc
-one_place (Cost a) (Right b) h = cc
-one_place (Cell a c) (Cost b) h = cc
-one_place (Cell a c) (Right b) h = cc
-one_place (Right a) (Cost b) h = cc
-one_place (Right a) (Cell b d) h = cc
 
 -- where one passes, the first that passes comes before any other answer
 found_first : (p : StochEntry → Bool) (xs : List StochEntry) (one other : Option StochEntry) → list_any p xs ≡ true → option_or (find p xs) one ≡ option_or (find p xs) other
@@ -70,7 +49,7 @@ one_more place kept e later true said = by (is_of place e) refl
     by : (b : Bool) → is_of place e ≡ b → option_or (find (is_of place) kept) later ≡ option_or (find (is_of place) kept) (cond b (Some e) later)
     by false h = refl
     by true h =
-        let there : has_place kept place ≡ true = subst (λ (p : StochPlace). has_place kept p ≡ true) (one_place e.place place h) said in
+        let there : has_place kept place ≡ true = subst (λ (p : StochPlace). has_place kept p ≡ true) (same_is e.place place h) said in
         found_first (is_of place) kept later (Some e) there
 
 first_folded : (place : StochPlace) (kept entries : List StochEntry) → find (is_of place) (fold with_entry kept entries) ≡ option_or (find (is_of place) kept) (find (is_of place) entries)
@@ -93,7 +72,7 @@ value_behind : (one other : Option StochEntry) → option_map (λ e. e.value) (o
 value_behind None other = refl
 value_behind (Some e) other = refl
 
-pub value-append : (place : StochPlace) (xs ys : List StochEntry) → value_at_place place (xs ++ ys) ≡ option_or (value_at_place place xs) (value_at_place place ys)
+value-append : (place : StochPlace) (xs ys : List StochEntry) → value_at_place place (xs ++ ys) ≡ option_or (value_at_place place xs) (value_at_place place ys)
 value-append place xs ys =
     ap (option_map (λ e. e.value)) (find-append (is_of place) xs ys)
     ∙ value_behind (find (is_of place) xs) (find (is_of place) ys)

@@ -6,6 +6,7 @@ use Rattle.std.proofs.lemmas.List.Elements.{filter-append, filter_more}
 use Rattle.std.proofs.lemmas.List.FromFn.{take-map-range_with_len}
 use Rattle.std.proofs.lemmas.List.Sums.{fold-append, sum_by-take-le, sum_by_push}
 use Rattle.base_words.proofs.Comparisons.{both_right}
+use Rattle.base_words.proofs.Booleans.{not_both}
 use Rattle.stoch_lines.specs.Places.{same_place}
 use Rattle.stoch_lines.specs.declared.places.StochEntry.{StochEntry}
 use Rattle.stoch_lines.specs.declared.places.StochPlace.{StochPlace}
@@ -21,10 +22,6 @@ use Rattle.scenario_lists.proofs.Rows.{next_folded, next_made}
 
 live_append : (live : List Bool) (xs ys : List StochEntry) → live_entries live (xs ++ ys) ≡ live_entries live xs ++ live_entries live ys
 live_append live xs ys = filter-append (λ (e : StochEntry). stays_in live e.place) xs ys
-
-apart_tests : (b : Bool) → b ≡ false → b ≡ true → ⊥
-apart_tests true f t = absurd (let z = f in cc)
-apart_tests false f t = absurd (let z = t in cc)
 
 -- whether a place stays is asked of the place alone
 same_stays : (live : List Bool) (p q : StochPlace) → same_place p q ≡ true → stays_in live p ≡ stays_in live q
@@ -45,7 +42,7 @@ live_has live p (e ∷ kept) h = by_test (stays_in live e.place) refl (same_plac
   where
     by_test : (t : Bool) → stays_in live e.place ≡ t → (u : Bool) → same_place e.place p ≡ u → has_place (live_entries live kept) p ≡ has_place kept p → has_place (cond t (e ∷ live_entries live kept) (live_entries live kept)) p ≡ (same_place e.place p || has_place kept p)
     by_test true s u is r = ap (λ b. same_place e.place p || b) r
-    by_test false s true is r = absurd (apart_tests (stays_in live e.place) s (same_stays live e.place p is ∙ h))
+    by_test false s true is r = absurd (not_both (stays_in live e.place) (same_stays live e.place p is ∙ h) s)
     by_test false s false is r = r ∙ sym (ap (λ b. b || has_place kept p) is)
 
 -- one more entry, left out first or last
@@ -144,7 +141,7 @@ product_more live es k left limit made next lt so step room less =
     omega (arith, room, less, count_push made next, ap entry_count more, ap entry_count front, part)
 
 -- one more entry that stays, and one that doesn't
-pub live_more : (live : List Bool) (xs old now : List StochEntry) (k : ℕ) (d : StochEntry) → k < length xs → stays_in live (get_or xs k d).place ≡ true → now ≡ old ++ live_entries live (take k xs) → now ++ get_or xs k d ∷ [] ≡ old ++ live_entries live (take (k + 1) xs)
+live_more : (live : List Bool) (xs old now : List StochEntry) (k : ℕ) (d : StochEntry) → k < length xs → stays_in live (get_or xs k d).place ≡ true → now ≡ old ++ live_entries live (take k xs) → now ++ get_or xs k d ∷ [] ≡ old ++ live_entries live (take (k + 1) xs)
 live_more live xs old now k d lt s so =
     let e = get_or xs k d in
     ap (λ l. l ++ e ∷ []) so
@@ -152,7 +149,7 @@ live_more live xs old now k d lt s so =
     ∙ ap (λ b. old ++ (live_entries live (take k xs) ++ cond b (e ∷ []) [])) (sym s)
     ∙ ap (λ l. old ++ l) (sym (filter_more (λ (x : StochEntry). stays_in live x.place) xs k d lt))
 
-pub live_same : (live : List Bool) (xs old now : List StochEntry) (k : ℕ) (d : StochEntry) → k < length xs → stays_in live (get_or xs k d).place ≡ false → now ≡ old ++ live_entries live (take k xs) → now ≡ old ++ live_entries live (take (k + 1) xs)
+live_same : (live : List Bool) (xs old now : List StochEntry) (k : ℕ) (d : StochEntry) → k < length xs → stays_in live (get_or xs k d).place ≡ false → now ≡ old ++ live_entries live (take k xs) → now ≡ old ++ live_entries live (take (k + 1) xs)
 live_same live xs old now k d lt s so =
     let e = get_or xs k d in
     so
@@ -161,7 +158,7 @@ live_same live xs old now k d lt s so =
     ∙ ap (λ l. old ++ l) (sym (filter_more (λ (x : StochEntry). stays_in live x.place) xs k d lt))
 
 -- the entries of one more element: those of what is chosen and of the first realisation, or of all elements before it
-pub live_joined : (live : List Bool) (old mid new xs ys : List StochEntry) → mid ≡ old ++ live_entries live xs → new ≡ mid ++ live_entries live ys → new ≡ old ++ live_entries live (xs ++ ys)
+live_joined : (live : List Bool) (old mid new xs ys : List StochEntry) → mid ≡ old ++ live_entries live xs → new ≡ mid ++ live_entries live ys → new ≡ old ++ live_entries live (xs ++ ys)
 live_joined live old mid new xs ys first second =
     second
     ∙ ap (λ l. l ++ live_entries live ys) first

@@ -9,6 +9,7 @@ pub use Rattle.base_words.specs.FirstAnswers
 pub use Rattle.base_words.specs.Gathered
 pub use Rattle.capped_num.specs.Capped
 pub use Rattle.smps_stoch.specs.LawWords
+pub use Rattle.smps_stoch.specs.StochData
 pub use Rattle.smps_stoch.specs.StochFacts
 pub use Rattle.stoch_lines.specs.Faults
 pub use Rattle.stoch_lines.specs.Places

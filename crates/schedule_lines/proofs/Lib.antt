@@ -1,4 +1,3 @@
 mod Answering
-mod Numerals
 mod Telling
 mod Within

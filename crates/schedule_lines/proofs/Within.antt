@@ -113,7 +113,7 @@ each_word : (crew : Crew) (turns : List Turn) (word : LineWord) (r : Result Turn
 each_word crew turns word (Ok turn) later all schedule is step said = step (schedule_more crew turns word.text turn schedule is) said
 each_word crew turns word (Err kind) later all schedule is step said = absurd cc
 
-pub within_behind : (crew : Crew) (turns : List Turn) (words : List LineWord) (all : List Turn) → IsScheduleOf crew turns → said_behind crew turns words ≡ Ok all → IsScheduleOf crew all
+within_behind : (crew : Crew) (turns : List Turn) (words : List LineWord) (all : List Turn) → IsScheduleOf crew turns → said_behind crew turns words ≡ Ok all → IsScheduleOf crew all
 within_behind crew turns [] all schedule said =
     let same : turns ≡ all = cc in
     subst (λ (t : List Turn). IsScheduleOf crew t) same schedule

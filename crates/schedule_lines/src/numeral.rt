@@ -6,6 +6,7 @@ ghost use Rattle.std.specs.Str.Parse.{digits_value};
 ghost use Rattle.schedule_lines.specs.TurnWords.{begins_well, is_numeral, numeral_of};
 ghost use Rattle.schedule_lines.specs.ReadingSteps.{number_cap};
 
+use dec_core::are_digits;
 use std::cmp;
 
 /// Every number from 2^64 on counts as 2^64, which is more than any `usize`.
@@ -20,12 +21,6 @@ fn capped_number(digits: &[u8]) -> u128
         number = cmp::min(number * 10 + u128::from(*byte - b'0'), NUMBER_CAP);
     }
     number
-}
-
-fn are_digits(text: &[u8]) -> bool
-    ensures { result ≡ list_all is_ascii_digit text.now }
-{
-    text.iter().all(|byte| byte.is_ascii_digit())
 }
 
 fn begins_well(text: &[u8]) -> bool

@@ -1,5 +1,5 @@
 use crate::problems::{prices, problem, small, tied};
-use boxed_problem::{Boxed, scan};
+use boxed_problem::scan;
 use std::alloc::{AllocError, Global};
 use std::process::Abort;
 use std::test::Fail;

@@ -8,6 +8,7 @@ use Rattle.std.proofs.lemmas.List.{append-nil, take_more}
 use Rattle.std.proofs.lemmas.List.Elements.{All-append, All-cons, All-nil}
 use Rattle.std.proofs.lemmas.List.Quantifiers.{position-Some}
 use Rattle.std.specs.Str.{bytes_eq}
+use Rattle.base_words.proofs.Comparisons.{both_parts}
 use Rattle.line_core.specs.SplitLines.{lines_of}
 use Rattle.line_core.specs.Names.{number_of}
 use Rattle.line_core.specs.declared.line_list.Line.{Line}
@@ -25,7 +26,7 @@ use Rattle.core_lines.specs.BoundLines.{bounds_next}
 use Rattle.core_lines.specs.Boxes.{has_empty_box}
 use Rattle.core_lines.specs.ColumnLines.{cell_for, cell_in, cells_in, columns_next, has_second, is_marker}
 use Rattle.core_lines.specs.Headers.{header_fault, is_bounds, is_columns, is_ending, is_in_place, is_name, is_rows, is_sense, section_of_word}
-use Rattle.core_lines.specs.Lines.{before_of, data_fault, is_end, is_within, line_fault, next}
+use Rattle.core_lines.specs.Lines.{before_of, data_fault, is_end_header, is_within, line_fault, next}
 use Rattle.core_lines.specs.Meaning.{fault_behind, meaning, outcome_of, said_by_read, said_by}
 use Rattle.core_lines.specs.Parts.{Before, BoundsSaid, ColumnsSaid, RowsSaid}
 use Rattle.core_lines.specs.RowLines.{names_in, row_place, rows_next}
@@ -108,27 +109,23 @@ no_empty b line none ending =
     sym (ap (λ (t : Bool). t && has_empty_box b.bounds.bounds (length b.columns.names)) ending)
     ∙ last_off (is_sense (section_of_word line)) (not (is_in_place b.headers (section_of_word line))) (not (is_name (section_of_word line)) && nat_lt 1 (field_count line)) (is_columns (section_of_word line) && nat_lt (length b.rows.frees) 1) (is_ending (section_of_word line) && has_empty_box b.bounds.bounds (length b.columns.names)) none
 
-both : (s t : Bool) → (s && t) ≡ true → (s ≡ true) × (t ≡ true)
-both true t is = (refl, is)
-both false t is = cc
-
 pub fault_there : (b : Before) (line : TextLine) → line.header ≡ true → line_fault b line ≡ None → header_fault b line ≡ None
 fault_there b line header none = sym (ap (λ (h : Bool). if h then header_fault b line else data_fault b.headers.section b line) header) ∙ none
 
-filled_next : (b : Before) (line : TextLine) → line_fault b line ≡ None → is_end line ≡ true → has_empty_box (next b line).bounds.bounds (length (next b line).columns.names) ≡ false
+filled_next : (b : Before) (line : TextLine) → line_fault b line ≡ None → is_end_header line ≡ true → has_empty_box (next b line).bounds.bounds (length (next b line).columns.names) ≡ false
 filled_next b line none ends =
-    let header = both line.header (is_ending (section_of_word line)) ends in
+    let header = both_parts line.header (is_ending (section_of_word line)) ends in
     ap (λ (s : BoundsSaid). has_empty_box s.bounds (length (next b line).columns.names)) (ap (λ (h : Bool). bounds_next (not h && is_bounds b.headers.section) b.columns.names b.bounds line) header.0)
     ∙ ap (λ (s : ColumnsSaid). has_empty_box b.bounds.bounds (length s.names)) (ap (λ (h : Bool). columns_next (not h && is_columns b.headers.section) b.rows b.columns line) header.0)
     ∙ no_empty b line (fault_there b line header.0 none) header.1
 
-filled_end : (xs before : List TextLine) (n : ℕ) (line : TextLine) → n < length xs → get_or xs n line ≡ line → before ≡ take (n + 1) xs → fault_behind (take n xs) line ≡ None → is_end line ≡ true → has_empty_box (before_of before).bounds.bounds (length (before_of before).columns.names) ≡ false
+filled_end : (xs before : List TextLine) (n : ℕ) (line : TextLine) → n < length xs → get_or xs n line ≡ line → before ≡ take (n + 1) xs → fault_behind (take n xs) line ≡ None → is_end_header line ≡ true → has_empty_box (before_of before).bounds.bounds (length (before_of before).columns.names) ≡ false
 filled_end xs before n line lt at is none ends =
     let whole : before ≡ take n xs ++ line ∷ [] = is ∙ take_more xs n line lt ∙ ap (λ (l : TextLine). take n xs ++ l ∷ []) at in
     let same : before_of before ≡ next (before_of (take n xs)) line = ap before_of whole ∙ goes_on.more (take n xs) line in
     ap (λ (b : Before). has_empty_box b.bounds.bounds (length b.columns.names)) same ∙ filled_next (before_of (take n xs)) line none ends
 
-fits_before : (xs before : List TextLine) → Says fault_behind is_end xs (Ended before) → FitsTogether (before_of before)
+fits_before : (xs before : List TextLine) → Says fault_behind is_end_header xs (Ended before) → FitsTogether (before_of before)
 fits_before xs before (n, line, at, is, none, ends, clean) = record {
   placed = placed before;
   filled = filled_end xs before n line at.0 at.1 is none ends;
@@ -138,13 +135,13 @@ ok_is : {X E : Type 0} (x : X) (r : Result X E) → r ≡ Ok x → IfOk r (λ y.
 ok_is x (Ok y) is = cc
 ok_is x (Err e) is = tt
 
-by_outcome : (xs : List TextLine) (last : ℕ) (o : Outcome TextLine CoreKind (List TextLine)) (said : Before) → Says fault_behind is_end xs o → answer_of before_of last kinds.NoEnd o ≡ Ok said → FitsTogether said
+by_outcome : (xs : List TextLine) (last : ℕ) (o : Outcome TextLine CoreKind (List TextLine)) (said : Before) → Says fault_behind is_end_header xs o → answer_of before_of last kinds.NoEnd o ≡ Ok said → FitsTogether said
 by_outcome xs last (Faulty line kind) said there is = absurd cc
 by_outcome xs last (Ended before) said there is = subst FitsTogether (ok_is said (Ok (before_of before)) is) (fits_before xs before there)
 by_outcome xs last Endless said there is = absurd cc
 
 by_read : (bytes : List ℕ) (r : Result (List Line) LineFault) (said : Before) → said_by_read bytes r ≡ Ok said → FitsTogether said
-by_read bytes (Ok lines) said is = by_outcome (text_lines bytes lines) (last_number (text_lines bytes lines)) (outcome_of (text_lines bytes lines)) said (says fault_behind is_end (text_lines bytes lines)) is
+by_read bytes (Ok lines) said is = by_outcome (text_lines bytes lines) (last_number (text_lines bytes lines)) (outcome_of (text_lines bytes lines)) said (says fault_behind is_end_header (text_lines bytes lines)) is
 by_read bytes (Err (line_faults.NotAscii line)) said is = absurd cc
 by_read bytes (Err (line_faults.TooLong line)) said is = absurd cc
 by_read bytes (Err line_faults.Memory) said is = absurd cc

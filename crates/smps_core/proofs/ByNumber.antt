@@ -20,7 +20,7 @@ same_from {X} f g a (suc n) same =
     ∙ ap (λ (l : List X). g a ∷ l) (same_from f g (a + 1) n (λ i le lt. same i (omega arith) (omega arith)))
 
 -- two functions that are the same below a count
-pub same_below : {X : Type 0} (f g : ℕ → X) (n : ℕ) → ((i : ℕ) → i < n → f i ≡ g i) → map f (range_with_len 0 n) ≡ map g (range_with_len 0 n)
+same_below : {X : Type 0} (f g : ℕ → X) (n : ℕ) → ((i : ℕ) → i < n → f i ≡ g i) → map f (range_with_len 0 n) ≡ map g (range_with_len 0 n)
 same_below f g n same = same_from f g 0 n (λ i le lt. same i (omega arith))
 
 -- what holds at each number holds of each item

@@ -5,6 +5,7 @@ use Rattle.std.specs.Option.{option_to_list}
 use Rattle.std.proofs.lemmas.Bool.{cases_lt}
 use Rattle.std.proofs.lemmas.List.{append-nil, get_or-take, length-take-le, length_push, take-take, take_more}
 use Rattle.std.proofs.lemmas.List.Sums.{fold-append}
+use Rattle.base_words.proofs.Comparisons.{not_not}
 use Rattle.line_core.specs.Names.{number_of}
 use Rattle.smps_words.proofs.PlaceLaw.{says}
 use Rattle.smps_words.proofs.ToldLaws.{told_push}
@@ -16,7 +17,7 @@ use Rattle.smps_words.specs.TextLines.{TextLine, field, no_line}
 use Rattle.smps_words.specs.declared.core_data.RowKind.{RowKind}
 use Rattle.core_lines.specs.ColumnLines.{grown, is_marker, words_in}
 use Rattle.core_lines.specs.Headers.{header_fault, is_columns, is_rows}
-use Rattle.core_lines.specs.Lines.{before_of, column_names_of, data_fault, is_end, is_within, rows_of, section_of}
+use Rattle.core_lines.specs.Lines.{before_of, column_names_of, data_fault, is_end_header, is_within, rows_of, section_of}
 use Rattle.core_lines.specs.Meaning.{fault_behind, outcome_of}
 use Rattle.core_lines.specs.Parts.{RowsSaid}
 use Rattle.core_lines.specs.RowLines.{is_full, is_unknown, names_added, names_in, row_fault}
@@ -63,17 +64,13 @@ third_off false true old full none = absurd cc
 third_off false false true full none = absurd cc
 third_off false false false full none = refl
 
-pub not_off : (t : Bool) → not t ≡ false → t ≡ true
-not_off true is = refl
-not_off false is = cc
-
 no_number : (n : Option ℕ) (other : Option (Option ℕ)) → is_none (option_map (λ i. Some (i + 1)) n or other) ≡ true → n ≡ None
 no_number None other is = refl
 no_number (Some i) other is = cc
 
 new_row : (rows : RowsSaid) (line : TextLine) → row_fault rows line ≡ None → number_of (field 1 line) rows.names ≡ None
 new_row rows line none =
-    let unknown : is_unknown rows (field 1 line) ≡ true = not_off (is_unknown rows (field 1 line)) (third_off _ _ (not (is_unknown rows (field 1 line))) (is_full rows (row_kind_named (field 0 line))) none) in
+    let unknown : is_unknown rows (field 1 line) ≡ true = not_not (is_unknown rows (field 1 line)) (third_off _ _ (not (is_unknown rows (field 1 line))) (is_full rows (row_kind_named (field 0 line))) none) in
     no_number (number_of (field 1 line) rows.names) _ unknown
 
 -- the section of ROWS
@@ -150,7 +147,7 @@ clean_more lines line clean none n lt =
     ]
 
 -- the lines before a place up to which none has a fault
-clean_front : (lines : List TextLine) (n : ℕ) → n < length lines → CleanTo fault_behind is_end lines n → AreClean (take n lines)
+clean_front : (lines : List TextLine) (n : ℕ) → n < length lines → CleanTo fault_behind is_end_header lines n → AreClean (take n lines)
 clean_front lines n inside clean m lt =
     let long : length (take n lines) ≡ n = length-take-le n lines (omega (arith, inside)) in
     let less : m < n = omega (arith, lt, long) in
@@ -158,14 +155,14 @@ clean_front lines n inside clean m lt =
     ∙ ap (λ (l : TextLine). fault_behind (take m lines) l) (get_or-take n lines m no_line less)
     ∙ (clean m less no_line).0
 
-clean_ended : (lines before : List TextLine) → Says fault_behind is_end lines (Ended before) → AreClean before
+clean_ended : (lines before : List TextLine) → Says fault_behind is_end_header lines (Ended before) → AreClean before
 clean_ended lines before (n, line, at_line, is, none, ends, clean) =
     let whole : before ≡ take n lines ++ line ∷ [] = is ∙ take_more lines n line at_line.0 ∙ ap (λ (l : TextLine). take n lines ++ l ∷ []) at_line.1 in
     subst AreClean (sym whole) (clean_more (take n lines) line (clean_front lines n at_line.0 clean) none)
 
 -- no line of an accepted file has a fault
 pub accepted_clean : (lines before : List TextLine) → outcome_of lines ≡ Ended before → AreClean before
-accepted_clean lines before is = clean_ended lines before (subst (λ (o : Outcome TextLine CoreKind (List TextLine)). Says fault_behind is_end lines o) is (says fault_behind is_end lines))
+accepted_clean lines before is = clean_ended lines before (subst (λ (o : Outcome TextLine CoreKind (List TextLine)). Says fault_behind is_end_header lines o) is (says fault_behind is_end_header lines))
 
 -- the rows of an accepted file
 pub rows_in_order : (lines before : List TextLine) → outcome_of lines ≡ Ended before → AreInOrder row_given before (rows_of before).names

@@ -12,7 +12,7 @@ use Rattle.std.proofs.lemmas.List.Quantifiers.{all_pairs_push, position-Some}
 use Rattle.std.proofs.lemmas.List.Folds.{list_any_at}
 use Rattle.std.proofs.lemmas.List.Sums.{fold-append}
 use Rattle.std.proofs.lemmas.Slice.Eq.{bytes_eq-Decides}
-use Rattle.line_core.proofs.Numbered.{none_passes}
+use Rattle.line_core.proofs.Numbered.{any_none}
 use Rattle.line_core.specs.Names.{number_of}
 use Rattle.smps_words.proofs.ToldLaws.{told_push}
 use Rattle.smps_words.specs.Outcomes.{all_told}
@@ -84,7 +84,7 @@ same_names gives lines line names old new = record {
 pub other_names : (name : List ℕ) (names : List (List ℕ)) → number_of name names ≡ None → (k : ℕ) (d : List ℕ) → k < length names → get_or names k d ≢ name
 other_names name names none k d lt is =
     let found : list_any (bytes_eq name) names ≡ true = list_any_at (bytes_eq name) names k d lt ((bytes_eq-Decides name (get_or names k d)).1 (sym is)) in
-    let absent : list_any (bytes_eq name) names ≡ false = none_passes (bytes_eq name) names none in
+    let absent : list_any (bytes_eq name) names ≡ false = any_none (bytes_eq name) names none in
     cc
 
 not_there : (name : List ℕ) (names : List (List ℕ)) → number_of name names ≡ None → Contains names name → ⊥

@@ -2,6 +2,8 @@
 use Rattle.std.proofs.Common.{◌≡◌, refl, sym, subst, ap, ◌∙◌, ℕ, Bool, true, false, List, [], ◌∷◌, ◌++◌, length, take, drop}
 use Rattle.std.specs.Prelude.{not, ◌&&◌, ◌||◌, None, nat_lt}
 use Rattle.std.proofs.lemmas.List.{take-append-drop}
+use Rattle.base_words.proofs.Comparisons.{not_not}
+use Rattle.base_words.proofs.Booleans.{not_both}
 use Rattle.smps_words.specs.Tables.{first_true}
 use Rattle.smps_words.specs.TextLines.{TextLine, field_count}
 use Rattle.core_lines.proofs.NextLaw.{goes_on}
@@ -15,7 +17,7 @@ use Rattle.core_lines.specs.declared.kinds.CoreKind.TheVariants as kinds
 use Rattle.core_lines.specs.declared.words.Section.{Section}
 use Rattle.core_lines.specs.declared.words.Section.TheVariants as sections
 use Rattle.smps_core.proofs.Accepted.{by_lines, fault_there}
-use Rattle.smps_core.proofs.GivenNames.{AreClean, clean_parts, not_off}
+use Rattle.smps_core.proofs.GivenNames.{AreClean, clean_parts}
 
 -- the header COLUMNS has stood, by the section of the last header
 abbrev is_past : Section → Bool
@@ -45,9 +47,6 @@ not_before sections.Sense past = absurd cc
 not_before sections.Rows past = absurd cc
 not_before sections.Other past = absurd cc
 
-clash : (t : Bool) → t ≡ true → t ≡ false → ⊥
-clash t on off = cc
-
 -- a header that may stand there is past it too
 stays_past : (headers : HeadersSaid) (section : Section) → is_past headers.section ≡ true → is_in_place headers section ≡ true → is_past section ≡ true
 stays_past headers sections.Columns past in_place = refl
@@ -58,10 +57,10 @@ stays_past headers sections.End past in_place = refl
 stays_past headers sections.Start past in_place = absurd cc
 stays_past headers sections.Sense past in_place = absurd cc
 stays_past headers sections.Other past in_place = absurd cc
-stays_past headers sections.Name past in_place = absurd (clash (is_start headers.section) in_place (not_before headers.section past).0)
+stays_past headers sections.Name past in_place = absurd (not_both (is_start headers.section) in_place (not_before headers.section past).0)
 stays_past headers sections.Rows past in_place =
     let early = not_before headers.section past in
-    absurd (clash (is_start headers.section || is_name headers.section) in_place (ap (λ (t : Bool). t || is_name headers.section) early.0 ∙ early.1))
+    absurd (not_both (is_start headers.section || is_name headers.section) in_place (ap (λ (t : Bool). t || is_name headers.section) early.0 ∙ early.1))
 
 -- a header's table without a fault: its second test is false
 second_off : (sense out fields bare empty : Bool) → first_true ((sense, kinds.Sense) ∷ (out, kinds.Section) ∷ (fields, kinds.Fields) ∷ (bare, kinds.NoObjective) ∷ (empty, kinds.EmptyBox) ∷ []) ≡ None → out ≡ false
@@ -71,7 +70,7 @@ second_off false false fields bare empty none = refl
 
 header_in_place : (b : Before) (line : TextLine) → header_fault b line ≡ None → is_in_place b.headers (section_of_word line) ≡ true
 header_in_place b line none =
-    not_off (is_in_place b.headers (section_of_word line))
+    not_not (is_in_place b.headers (section_of_word line))
     (second_off (is_sense (section_of_word line)) (not (is_in_place b.headers (section_of_word line))) (not (is_name (section_of_word line)) && nat_lt 1 (field_count line)) (is_columns (section_of_word line) && nat_lt (length b.rows.frees) 1) (is_ending (section_of_word line) && has_empty_box b.bounds.bounds (length b.columns.names)) none)
 
 one_more : (header : Bool) (b : Before) (line : TextLine) → line.header ≡ header → line_fault b line ≡ None → is_past b.headers.section ≡ true → (is_past (headers_next header b.headers line).section ≡ true) × (rows_next (not header && is_rows b.headers.section) b.rows line ≡ b.rows)

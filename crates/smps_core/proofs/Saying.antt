@@ -7,6 +7,7 @@ use Rattle.std.proofs.lemmas.Grind.{common_steps}
 use Rattle.std.proofs.lemmas.List.{append-nil, get_or-map, length-map}
 use Rattle.std.proofs.lemmas.List.Elements.{All-contains_itself, All-filter, Contains-append_left, Contains-append_right, Contains-append_cases, filter_passes}
 use Rattle.std.proofs.lemmas.List.Sorted.{Contains-permutation, IsPermutation-sym}
+use Rattle.base_words.proofs.FirstAnswers.{same_some}
 use Rattle.dec_core.specs.declared.decimal.Decimal.{Decimal}
 use Rattle.smps_words.specs.CoreFacts.{zero_decimal}
 use Rattle.line_core.specs.Names.{number_of}
@@ -100,14 +101,11 @@ line_says before line c ((within, marker), pair) =
 abbrev tells : List TextLine → TextLine → List Cell
 tells before line = if is_within is_columns (section_of before) line then cells_in (rows_of before) (column_names_of before) line else []
 
-some_is : (i j : ℕ) → Some i ≡ Some j → i ≡ j
-some_is i j is = cc
-
 -- the column by the names of all lines, in place of the number that the line gives it
 pair_in_all : (before : List TextLine) (names : List (List ℕ)) (line : TextLine) (k : ℕ) (c : Cell) → number_of (field 0 line) names ≡ Some (column_number (column_names_of before) (field 0 line)) → BothWays (TellsPairAt before line k c) (HasPairAt (rows_of before) names line k c)
 pair_in_all before names line k c number = (
   λ (row, column, value, at). (row, number ∙ ap Some column, value, at),
-  λ (row, column, value, at). (row, some_is (column_number (column_names_of before) (field 0 line)) c.column (sym number ∙ column), value, at),
+  λ (row, column, value, at). (row, same_some (sym number ∙ column), value, at),
 )
 
 to_pair : (before : List TextLine) (names : List (List ℕ)) (line : TextLine) (c : Cell) → number_of (field 0 line) names ≡ Some (column_number (column_names_of before) (field 0 line)) → TellsPair before line c → HasPair (rows_of before) names line c

@@ -29,7 +29,7 @@ one_more cells cell =
     ∙ kept_more (filter is_entry cells) cell (is_entry cell)
 
 -- one more pair in the course of a loop
-pub entry_more : (cells : List Cell) (i : ℕ) (cell : Cell) (entries new : List CoreEntry) → i < length cells → cell ≡ get_or cells i cell → entries ≡ entries_of (take i cells) → new ≡ (if is_entry cell then entries ++ entry_of cell ∷ [] else entries) → new ≡ entries_of (take (i + 1) cells)
+entry_more : (cells : List Cell) (i : ℕ) (cell : Cell) (entries new : List CoreEntry) → i < length cells → cell ≡ get_or cells i cell → entries ≡ entries_of (take i cells) → new ≡ (if is_entry cell then entries ++ entry_of cell ∷ [] else entries) → new ≡ entries_of (take (i + 1) cells)
 entry_more cells i cell entries new lt at before is =
     is
     ∙ ap (λ (l : List CoreEntry). if is_entry cell then l ++ entry_of cell ∷ [] else l) before

@@ -6,6 +6,7 @@ pub mod Joining
 pub mod Laws
 pub mod NameOrder
 pub mod Rows
+pub use Rattle.core_lines.specs.BoundLines
 pub use Rattle.core_lines.specs.Boxes
 pub use Rattle.core_lines.specs.ColumnLines
 pub use Rattle.core_lines.specs.Headers
@@ -13,6 +14,7 @@ pub use Rattle.core_lines.specs.Lines
 pub use Rattle.core_lines.specs.Meaning
 pub use Rattle.core_lines.specs.Parts
 pub use Rattle.core_lines.specs.RowLines
+pub use Rattle.core_lines.specs.SideLines
 pub use Rattle.core_lines.specs.States
 pub use Rattle.core_lines.specs.Words
 pub use Rattle.line_core.specs.Names

@@ -79,7 +79,7 @@ none_earlier periods (suc k) some lt le =
     omega (arith, le, rise, ap (slice_index periods.columns) e)
 
 -- the first column is of the first stage
-pub first_stage : (periods : Periods) → stage_in periods.columns 0 ≡ 1
+first_stage : (periods : Periods) → stage_in periods.columns 0 ≡ 1
 first_stage periods =
     let stage = column_stage periods 0 in
     by_test (nat_le 2 (stage_in periods.columns 0)) refl stage

@@ -5,6 +5,7 @@ use Rattle.std.proofs.lemmas.List.{get_or_append_left, length-append, take_more}
 use Rattle.std.proofs.lemmas.List.Elements.{All-push}
 use Rattle.std.proofs.lemmas.List.Quantifiers.{Any-push}
 use Rattle.base_words.proofs.ListSumsByNumber.{range_more}
+use Rattle.base_words.proofs.Booleans.{not_both}
 use Rattle.smps_words.specs.Stages.{stage_in}
 use Rattle.smps_words.specs.declared.core_data.CoreEntry.{CoreEntry}
 use Rattle.join_words.specs.Parts.{Firsts, IsFirstEarly, is_early, stages_of}
@@ -23,10 +24,6 @@ module _ (firsts : Firsts) where
   abbrev IsNotBelow : ℕ → CoreEntry → Type 0
   IsNotBelow line e = is_early firsts e ≡ true → line ≤ e.line
 
-  not_early : (b : Bool) → b ≡ false → b ≡ true → ⊥
-  not_early true h g = absurd (let z = h in cc)
-  not_early false h g = absurd (let z = g in cc)
-
   lesser_line : (es : List CoreEntry) (e : CoreEntry) (line : ℕ) (t : Bool) → nat_lt e.line line ≡ t → is_early firsts e ≡ true → Any (IsAt line) es → All (IsNotBelow line) es → IsFirstEarly firsts (es ++ e ∷ []) (Some (min line e.line))
   lesser_line es e line true less early any all =
       let lt : e.line < line = grind arith in
@@ -43,12 +40,12 @@ module _ (firsts : Firsts) where
 
   early_pushed : (es : List CoreEntry) (e : CoreEntry) (least : Option ℕ) → is_early firsts e ≡ true → IsFirstEarly firsts es least → IsFirstEarly firsts (es ++ e ∷ []) (Some (lesser least e.line))
   early_pushed es e None early h =
-      (Any-push (IsAt e.line) es e (early, refl), All-push (IsNotBelow e.line) es e (λ k d k_lt is. absurd (not_early (is_early firsts (get_or es k d)) (h k d k_lt) is)) (λ is. omega arith))
+      (Any-push (IsAt e.line) es e (early, refl), All-push (IsNotBelow e.line) es e (λ k d k_lt is. absurd (not_both (is_early firsts (get_or es k d)) is (h k d k_lt))) (λ is. omega arith))
   early_pushed es e (Some line) early h = lesser_line es e line (nat_lt e.line line) refl early h.0 h.1
 
   late_pushed : (es : List CoreEntry) (e : CoreEntry) (least : Option ℕ) → is_early firsts e ≡ false → IsFirstEarly firsts es least → IsFirstEarly firsts (es ++ e ∷ []) least
   late_pushed es e None late h = All-push (λ (x : CoreEntry). is_early firsts x ≡ false) es e h late
-  late_pushed es e (Some line) late h = (any_kept (IsAt line) es (e ∷ []) h.0, All-push (IsNotBelow line) es e h.1 (λ is. absurd (not_early (is_early firsts e) late is)))
+  late_pushed es e (Some line) late h = (any_kept (IsAt line) es (e ∷ []) h.0, All-push (IsNotBelow line) es e h.1 (λ is. absurd (not_both (is_early firsts e) is late)))
 
   -- one entry more
   pub early_next : (es : List CoreEntry) (k : ℕ) (e : CoreEntry) (least : Option ℕ) → k < length es → e ≡ get_or es k e → is_early firsts e ≡ true → IsFirstEarly firsts (take k es) least → IsFirstEarly firsts (take (k + 1) es) (Some (lesser least e.line))

@@ -1,12 +1,12 @@
 -- The entries of a run: in order, of rows and columns that are there, and none of a column whose box is the single 0.
-use Rattle.std.proofs.Common.{arith, refl, sym, ap, subst, ◌∙◌, ◌≡◌, ℕ, zero, suc, ◌+◌, ◌-◌, ◌<◌, Bool, true, false, not, ◌&&◌, List, map, length, get_or, ℤ, pos, negsuc, unsigned_abs, if◌then◌else◌}
+use Rattle.std.proofs.Common.{arith, refl, sym, ap, subst, ◌∙◌, ◌≡◌, ℕ, zero, suc, ◌+◌, ◌-◌, ◌<◌, Bool, true, false, not, ◌&&◌, List, map, length, get_or, pos, unsigned_abs, if◌then◌else◌, ◌≤◌}
 use Rattle.std.specs.Ordering.{int_eq}
 use Rattle.std.specs.List.{All, AllPairs, filter, range_with_len}
-use Rattle.std.proofs.lemmas.Int.{ints}
 use Rattle.std.proofs.lemmas.List.{get_or-map, get_or_default, length-map}
 use Rattle.std.proofs.lemmas.List.Elements.{All-filter, All-map, filter_passes}
 use Rattle.std.proofs.lemmas.List.Kept.{AllPairs-filter}
 use Rattle.std.proofs.lemmas.List.FromFn.{get_or-map-range_with_len, length-map-range_with_len}
+use Rattle.base_words.proofs.Magnitudes.{abs_none}
 use Rattle.boxed_problem.specs.BoxedFacts.{ComesBefore, entry_at, no_entry}
 use Rattle.boxed_problem.specs.Sides.{no_side, reach, side_at}
 use Rattle.boxed_problem.specs.declared.parts.Entry.{Entry}
@@ -73,19 +73,14 @@ entries_there core frame =
     (All-filter (λ (e : CoreEntry). stays frame.sides e.column) (λ (e : CoreEntry). (e.row < length core.rows) × (e.column < length core.columns)) core.entries core.facts.places)
 
 -- boxes
-abs_none : (z : ℤ) → unsigned_abs z ≡ 0 → z ≡ pos 0
-abs_none (pos zero) h = refl
-abs_none (pos (suc n)) h = absurd (omega (arith, ints, h))
-abs_none (negsuc n) h = absurd (omega (arith, ints, h))
-
 zero_box : (side : Side) → reach side ≡ 0 → is_zero side ≡ true
 zero_box side h =
-    let low : unsigned_abs side.lower ≡ 0 = omega (arith, h) in
-    let high : unsigned_abs side.upper ≡ 0 = omega (arith, h) in
+    let low : unsigned_abs side.lower ≤ 0 = omega (arith, h) in
+    let high : unsigned_abs side.upper ≤ 0 = omega (arith, h) in
     ap (λ z. int_eq z (pos 0) && int_eq side.upper (pos 0)) (abs_none side.lower low) ∙ ap (λ z. int_eq (pos 0) (pos 0) && int_eq z (pos 0)) (abs_none side.upper high)
 
 -- the box of a column of the run is that of the frame
-pub box_is_side : (core : Core) (firsts : Firsts) (frame : Frame) (p : Program) (j : ℕ) → p.columns ≡ columns_of (parts_of core) firsts frame → j < length core.columns → box_reach p j ≡ reach (side_at frame.sides j)
+box_is_side : (core : Core) (firsts : Firsts) (frame : Frame) (p : Program) (j : ℕ) → p.columns ≡ columns_of (parts_of core) firsts frame → j < length core.columns → box_reach p j ≡ reach (side_at frame.sides j)
 box_is_side core firsts frame p j columns lt =
     let column = column_of (parts_of core) firsts frame in
     let n = length core.columns in

@@ -1,7 +1,6 @@
 -- The listed scenarios: what holds of all entries of a stoch file holds of theirs, no place stands twice, and each weight is at least 1.
-use Rattle.std.proofs.Common.{arith, refl, sym, subst, ◌∙◌, ◌≡◌, ℕ, zero, suc, ◌+◌, ◌<◌, ◌≤◌, nat_lt, Bool, true, false, List, [], ◌∷◌, ◌++◌, length, get_or, ℤ, pos, negsuc, ◌≤ℤ◌, unsigned_abs, Option, Some, None, if◌then◌else◌, slice_index}
+use Rattle.std.proofs.Common.{arith, refl, sym, subst, ◌∙◌, ◌≡◌, ℕ, zero, suc, ◌+◌, ◌<◌, ◌≤◌, nat_lt, Bool, true, false, List, [], ◌∷◌, ◌++◌, length, get_or, unsigned_abs, Option, Some, None, if◌then◌else◌, slice_index}
 use Rattle.std.specs.List.{All, AllByRecursion, AllPairs, flat_map, fold, range_with_len}
-use Rattle.std.proofs.lemmas.Int.{ints}
 use Rattle.std.proofs.lemmas.List.FromFn.{length-map-range_with_len, get_or-range_with_len, length-range_with_len}
 use Rattle.std.proofs.lemmas.List.{length_push}
 use Rattle.std.proofs.lemmas.List.Elements.{All-append, All-map, All-push, recursion_from_All}
@@ -24,6 +23,7 @@ use Rattle.scenario_lists.specs.ScenarioList.{branch_scenarios, count_of, inheri
 use Rattle.scenario_lists.specs.declared.data.ScenarioData.{ScenarioData}
 use Rattle.scenario_lists.proofs.Apart.{apart}
 use Rattle.scenario_lists.proofs.Digits.{are_choices}
+use Rattle.sp_model.proofs.Bounds.{abs_some}
 use Rattle.join_words.specs.Parts.{all_entries}
 
 -- an item of a list, or what stands past its end
@@ -38,7 +38,7 @@ no_items : {X : Type 0} (Q : X → Type 0) → All Q []
 no_items Q k d lt = absurd (omega (arith, lt))
 
 -- lists behind one another
-pub all_flat : {X Y : Type 0} (P : Y → Type 0) (f : X → List Y) (xs : List X) → All (λ x. All P (f x)) xs → All P (flat_map f xs)
+all_flat : {X Y : Type 0} (P : Y → Type 0) (f : X → List Y) (xs : List X) → All (λ x. All P (f x)) xs → All P (flat_map f xs)
 all_flat P f [] h = no_items P
 all_flat P f (x ∷ xs) h = All-append P (f x) (flat_map f xs) (h 0 x (omega arith)) (all_flat P f xs (λ k d lt. h (suc k) d (omega (arith, lt))))
 
@@ -124,23 +124,19 @@ abbrev pub EachWeight : Stoch → Type 0
 EachWeight (Product es) = All (λ (e : Element). All (λ (r : Realisation). IsWeight r.weight) e.realisations) es
 EachWeight (Scenarios bs) = All (λ (b : Branch). IsWeight b.weight) bs
 
-some_weight : (w : ℤ) → pos 1 ≤ℤ w → 1 ≤ unsigned_abs w
-some_weight (pos a) h = omega (arith, ints)
-some_weight (negsuc a) h = absurd (omega (arith, ints))
-
 product_weight : (es : List Element) (cs : List ℕ) (n : ℕ) → EachWeight (Product es) → AreChoices es cs → n ≤ length es → 1 ≤ weight_below es cs n
 product_weight es cs zero h choices le = omega arith
 product_weight es cs (suc n) h choices le =
     let there : n < length es = omega (arith, le) in
     let own = h n no_element there (slice_index cs n) no_realisation (choices.there n there) in
-    mul-le-mul (product_weight es cs n h choices (omega (arith, le))) (some_weight (chosen_at es cs n).weight own.0)
+    mul-le-mul (product_weight es cs n h choices (omega (arith, le))) (abs_some (chosen_at es cs n).weight own.0)
 
 capped_some : (n : ℕ) → 1 ≤ n → 1 ≤ capped n
 capped_some n h = omega (arith, h)
 
 branch_weights : (made : List ScenarioData) (bs : List Branch) → All (λ (s : ScenarioData). 1 ≤ s.weight) made → AllByRecursion (λ (b : Branch). IsWeight b.weight) bs → All (λ (s : ScenarioData). 1 ≤ s.weight) (fold with_branch made bs)
 branch_weights made [] h own = h
-branch_weights made (b ∷ bs) h own = branch_weights (with_branch made b) bs (All-push (λ (s : ScenarioData). 1 ≤ s.weight) made (scenario_beside made b) h (capped_some (unsigned_abs b.weight) (some_weight b.weight own.0.0))) own.1
+branch_weights made (b ∷ bs) h own = branch_weights (with_branch made b) bs (All-push (λ (s : ScenarioData). 1 ≤ s.weight) made (scenario_beside made b) h (capped_some (unsigned_abs b.weight) (abs_some b.weight own.0.0))) own.1
 
 pub listed_weights : (stoch : Stoch) → EachWeight stoch → All (λ (s : ScenarioData). 1 ≤ s.weight) (scenarios_of stoch)
 unfolding branch_scenarios

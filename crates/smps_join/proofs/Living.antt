@@ -4,6 +4,7 @@ use Rattle.std.specs.List.{All, cons_option, filter_map}
 use Rattle.std.proofs.lemmas.List.{length-map}
 use Rattle.std.proofs.lemmas.List.Elements.{All-filter, All-map}
 use Rattle.std.proofs.lemmas.List.Sums.{sum_by-cons}
+use Rattle.base_words.proofs.Comparisons.{not_not}
 use Rattle.boxed_problem.specs.declared.parts.Side.{Side}
 use Rattle.dec_core.specs.declared.decimal.Decimal.{Decimal}
 use Rattle.smps_stoch.specs.declared.stoch.Stoch.{Stoch}
@@ -34,19 +35,15 @@ live_at [] j = refl
 live_at (side ∷ sides) zero = refl
 live_at (side ∷ sides) (suc j) = live_at sides j
 
-pub live_is : (sides : List Side) (p : StochPlace) → stays_in (live_of sides) p ≡ is_live sides p
+live_is : (sides : List Side) (p : StochPlace) → stays_in (live_of sides) p ≡ is_live sides p
 live_is sides (Cost j) = live_at sides j
 live_is sides (Cell i j) = live_at sides j
 live_is sides (Right i) = refl
 
-not_live : (b : Bool) → not b ≡ false → b ≡ true
-not_live true h = refl
-not_live false h = absurd (let z = h in cc)
-
 -- what doesn't stay changes nothing
 idle_none : (parts : Parts) (frame : Frame) (p : StochPlace) (value : Decimal) → is_live frame.sides p ≡ false → change_at parts frame p value ≡ None
-idle_none parts frame (Cost j) value h = ap (λ t. if t then None else Some (change.Cost j (scaled_cost frame value))) (not_live (is_idle frame.sides j) h)
-idle_none parts frame (Cell i j) value h = ap (λ t. if t then None else Some (change.Cell i j (scaled_in frame i value))) (not_live (is_idle frame.sides j) h)
+idle_none parts frame (Cost j) value h = ap (λ t. if t then None else Some (change.Cost j (scaled_cost frame value))) (not_not (is_idle frame.sides j) h)
+idle_none parts frame (Cell i j) value h = ap (λ t. if t then None else Some (change.Cell i j (scaled_in frame i value))) (not_not (is_idle frame.sides j) h)
 idle_none parts frame (Right i) value h = absurd (let z = h in cc)
 
 changes_live : (parts : Parts) (frame : Frame) (es : List StochEntry) → filter_map (change_of parts frame) (live_entries (live_of frame.sides) es) ≡ filter_map (change_of parts frame) es
@@ -58,7 +55,7 @@ changes_live parts frame (e ∷ es) = by_test (stays_in (live_of frame.sides) e.
     by_test false s r = r ∙ sym (ap (λ o. cons_option o (filter_map (change_of parts frame) es)) (idle_none parts frame e.place e.value (sym (live_is frame.sides e.place) ∙ s)))
 
 -- a scenario of the run is made of the entries that stay
-pub scenarios_live : (parts : Parts) (frame : Frame) (listed : List ScenarioData) → map (scenario_of parts frame) (map (live_scenario (live_of frame.sides)) listed) ≡ map (scenario_of parts frame) listed
+scenarios_live : (parts : Parts) (frame : Frame) (listed : List ScenarioData) → map (scenario_of parts frame) (map (live_scenario (live_of frame.sides)) listed) ≡ map (scenario_of parts frame) listed
 scenarios_live parts frame [] = refl
 scenarios_live parts frame (s ∷ listed) =
     ap (λ cs. (let made : Scenario = record { weight = (scenario_of parts frame s).weight; changes = cs } in made) ∷ map (scenario_of parts frame) (map (live_scenario (live_of frame.sides)) listed)) (changes_live parts frame s.entries)

@@ -4,7 +4,7 @@ use Rattle.std.specs.List.{All, Any, cons_option, filter_map, sum_by}
 use Rattle.std.proofs.lemmas.List.{length-map}
 use Rattle.std.proofs.lemmas.List.FromFn.{length-map-range_with_len}
 use Rattle.std.proofs.lemmas.List.Sums.{sum_by-cons}
-use Rattle.base_words.proofs.Booleans.{or_left}
+use Rattle.base_words.proofs.Booleans.{or_left, or_right_true}
 use Rattle.boxed_problem.specs.BoxedFacts.{limits_size}
 use Rattle.boxed_problem.specs.declared.parts.Entry.{Entry}
 use Rattle.capped_num.specs.Capped.{capped}
@@ -64,11 +64,11 @@ change_long parts frame (Cost j) e cs n h = unless_long (is_idle frame.sides j) 
 change_long parts frame (Cell i j) e cs n h = unless_long (is_idle frame.sides j) (change.Cell i j (scaled_in frame i e.value)) cs n h
 change_long parts frame (Right i) e cs n h = omega (arith, h)
 
-pub changes_long : (parts : Parts) (frame : Frame) (es : List StochEntry) → length (filter_map (change_of parts frame) es) ≡ change_count frame.sides es
+changes_long : (parts : Parts) (frame : Frame) (es : List StochEntry) → length (filter_map (change_of parts frame) es) ≡ change_count frame.sides es
 changes_long parts frame [] = refl
 changes_long parts frame (e ∷ es) = change_long parts frame e.place e (filter_map (change_of parts frame) es) (change_count frame.sides es) (changes_long parts frame es) ∙ sym (count_cons (λ (x : StochEntry). is_live frame.sides x.place) e es)
 
-pub changes_sum : (parts : Parts) (frame : Frame) (listed : List ScenarioData) → changes_count frame.sides listed ≡ sum_by (λ (s : Scenario). length s.changes) (map (scenario_of parts frame) listed)
+changes_sum : (parts : Parts) (frame : Frame) (listed : List ScenarioData) → changes_count frame.sides listed ≡ sum_by (λ (s : Scenario). length s.changes) (map (scenario_of parts frame) listed)
 changes_sum parts frame [] = refl
 changes_sum parts frame (s ∷ listed) = omega (arith, sum_by-cons (λ (x : ScenarioData). change_count frame.sides x.entries) s listed, sum_by-cons (λ (x : Scenario). length x.changes) (scenario_of parts frame s) (map (scenario_of parts frame) listed), changes_sum parts frame listed, changes_long parts frame s.entries)
 
@@ -91,16 +91,12 @@ change_within (change.Limits row lower upper) n large le = omega (arith, large, 
 any_all : {X : Type 0} (P Q : X → Type 0) (R : Type 0) (xs : List X) → ((x : X) → P x → Q x → R) → Any P xs → All Q xs → R
 any_all P Q R xs f (k, x, lt, at, h) all = f x h (subst Q at (all k x lt))
 
-pub unfit_above : (p : Program) (n : ℕ) → NumbersWithin p n → HasUnfit p → 2 ^ 127 ≤ n
+unfit_above : (p : Program) (n : ℕ) → NumbersWithin p n → HasUnfit p → 2 ^ 127 ≤ n
 unfit_above p n all (inl any) = any_all IsLargeColumn (λ (c : Column). unsigned_abs c.cost ≤ n) (2 ^ 127 ≤ n) p.columns (λ c large le. large_number (2 ^ 127) (unsigned_abs c.cost) n large le) any all.columns
 unfit_above p n all (inr (inl any)) = any_all IsLargeRow (λ (r : Row). limits_size (limits_of r) ≤ n) (2 ^ 127 ≤ n) p.rows (λ r large le. large_number (2 ^ 127) (limits_size (limits_of r)) n large le) any all.rows
 unfit_above p n all (inr (inr (inl any))) = any_all IsLargeEntry (λ (e : Entry). unsigned_abs e.value ≤ n) (2 ^ 127 ≤ n) p.entries (λ e large le. large_number (2 ^ 127) (unsigned_abs e.value) n large le) any all.entries
 unfit_above p n all (inr (inr (inr (inl large)))) = large_number (2 ^ 127) (unsigned_abs p.constant) n large all.constant
 unfit_above p n all (inr (inr (inr (inr any)))) = any_all IsLargeScenario (λ (s : Scenario). All (λ c. change_size c ≤ n) s.changes) (2 ^ 127 ≤ n) p.scenarios (λ s large le. any_all IsLargeChange (λ c. change_size c ≤ n) (2 ^ 127 ≤ n) s.changes (λ c one small. change_within c n one small) large le) any all.changes
-
-or_right_true : (a b : Bool) → b ≡ true → (a || b) ≡ true
-or_right_true true b h = refl
-or_right_true false b h = h
 
 -- more scenarios than there may be
 pub crowded : (n : ℕ) → (n ≤ 4096 → ⊥) → nat_lt 4096 n ≡ true
@@ -126,7 +122,7 @@ module _ (core : Core) (periods : Periods) (stoch : Stoch) (options : Options) w
   large_total can large = omega (arith, large, ap unsigned_abs (total_is core periods stoch options), total_within (program_of source) (options_of source options) (total_of source) (nonleaf_of source) (has_reach core periods stoch options can))
 
   -- memory is asked for where neither an entry is early nor there are too many scenarios or cells
-  pub few_listed : is_too_large source ≡ false → has_many_listed source ≡ false
+  few_listed : is_too_large source ≡ false → has_many_listed source ≡ false
   few_listed few = or_left (has_many_listed source) (has_many_changes source) few
 
   pub memory_refused : IsTimely source → is_crowded source ≡ false → is_too_large source ≡ false → IsRefused source options Memory

@@ -13,7 +13,8 @@ use Rattle.std.proofs.lemmas.List.Sums.{sum_by-cons}
 use Rattle.base_words.specs.ListSums.{sum_z}
 use Rattle.base_words.proofs.Comparisons.{both_right}
 use Rattle.base_words.proofs.ListSums.{sum_z-cons}
-use Rattle.base_words.proofs.Booleans.{or_left}
+use Rattle.base_words.proofs.Booleans.{or_left, or_right, not_both}
+use Rattle.base_words.proofs.NumberTests.{not_less_from_test}
 use Rattle.smps_words.specs.CoreFacts.{IsShort}
 use Rattle.smps_words.specs.declared.core_file.Core.{Core}
 use Rattle.smps_words.specs.declared.periods.Periods.{Periods}
@@ -95,14 +96,10 @@ scenario_is core periods stoch frame listed known =
       apart = kept_pairs (change_of (parts_of core) frame) (λ c d. is_same_place c d ≡ false) one.entries (λ i j e before j_lt. changes_differ (parts_of core) frame (get_or one.entries i e) (get_or one.entries j e) (known.apart k s lt i j e before j_lt));
     })
 
-none_both : (b : Bool) → b ≡ true → b ≡ false → ⊥
-none_both true h g = let z = g in absurd cc
-none_both false h g = let z = h in absurd cc
-
 -- a change of a column whose box is the single 0
 idle_change : (core : Core) (periods : Periods) (stoch : Stoch) (frame : Frame) (listed : List ScenarioData) (c : Change) → Stays frame.sides c → is_change (length core.rows) (length core.columns) c ≡ true → change_reach (program_with core periods stoch frame listed) c ≡ 0 → change_value c ≡ pos 0
-idle_change core periods stoch frame listed (Cost j z) stays there h = absurd (none_both (is_idle frame.sides j) (idle_from_reach core (firsts_of periods) frame (program_with core periods stoch frame listed) j refl (let t = there in grind arith) h) stays)
-idle_change core periods stoch frame listed (Cell i j z) stays there h = absurd (none_both (is_idle frame.sides j) (idle_from_reach core (firsts_of periods) frame (program_with core periods stoch frame listed) j refl (let t = both_right (nat_lt i (length core.rows)) (nat_lt j (length core.columns)) there in grind arith) h) stays)
+idle_change core periods stoch frame listed (Cost j z) stays there h = absurd (not_both (is_idle frame.sides j) (idle_from_reach core (firsts_of periods) frame (program_with core periods stoch frame listed) j refl (let t = there in grind arith) h) stays)
+idle_change core periods stoch frame listed (Cell i j z) stays there h = absurd (not_both (is_idle frame.sides j) (idle_from_reach core (firsts_of periods) frame (program_with core periods stoch frame listed) j refl (let t = both_right (nat_lt i (length core.rows)) (nat_lt j (length core.columns)) there in grind arith) h) stays)
 idle_change core periods stoch frame listed (Limits i lower upper) stays there h = absurd (omega (arith, h))
 
 idle_is : (core : Core) (periods : Periods) (stoch : Stoch) (frame : Frame) (listed : List ScenarioData) → IsListed core listed → IdleFacts (program_with core periods stoch frame listed)
@@ -116,7 +113,7 @@ idle_is core periods stoch frame listed known =
           ap (λ (c : Column). c.cost) (get_or-map-range_with_len column 0 n j j d below (omega arith)) ∙ idle_cost core (firsts_of periods) frame j (idle_from_reach core (firsts_of periods) frame p j refl below h);
       entries = λ k e lt h.
           let x = get_or (entries_of (parts_of core) frame) k e in
-          absurd (none_both (is_idle frame.sides x.column) (idle_from_reach core (firsts_of periods) frame p x.column refl (entries_there core frame k e lt).1 h) (entries_stay core frame k e lt));
+          absurd (not_both (is_idle frame.sides x.column) (idle_from_reach core (firsts_of periods) frame p x.column refl (entries_there core frame k e lt).1 h) (entries_stay core frame k e lt));
       changes = All-map (λ (s : Scenario). All (λ c. change_reach p c ≡ 0 → change_value c ≡ pos 0) s.changes) (scenario_of (parts_of core) frame) listed (λ k s lt.
           let one = get_or listed k s in
           kept_all (change_of (parts_of core) frame) (λ c. change_reach p c ≡ 0 → change_value c ≡ pos 0) one.entries (recursion_from_All (λ (e : StochEntry). IfSome (change_of (parts_of core) frame e) (λ c. change_reach p c ≡ 0 → change_value c ≡ pos 0)) one.entries (λ i e i_lt.
@@ -129,7 +126,7 @@ idle_is core periods stoch frame listed known =
     joined_some (Some c) A B C f a b = f c a b
 
 -- the sum of the weights
-pub weights_sum : (core : Core) (frame : Frame) (listed : List ScenarioData) → sum_z (λ (s : Scenario). s.weight) (map (scenario_of (parts_of core) frame) listed) ≡ pos (weight_sum listed)
+weights_sum : (core : Core) (frame : Frame) (listed : List ScenarioData) → sum_z (λ (s : Scenario). s.weight) (map (scenario_of (parts_of core) frame) listed) ≡ pos (weight_sum listed)
 weights_sum core frame [] = refl
 weights_sum core frame (s ∷ listed) =
     omega (arith, ints, sum_z-cons (λ (t : Scenario). t.weight) (scenario_of (parts_of core) frame s) (map (scenario_of (parts_of core) frame) listed), weights_sum core frame listed, sum_by-cons (λ (t : ScenarioData). t.weight) s listed)
@@ -195,13 +192,6 @@ options_are core periods stoch options can =
       missing = o.missing;
     }
 
-or_right : (a b : Bool) → (a || b) ≡ false → b ≡ false
-or_right true b h = absurd (let z = h in cc)
-or_right false b h = h
-
-pub at_most : (a b : ℕ) → nat_lt a b ≡ false → b ≤ a
-at_most a b h = grind arith
-
 -- the counts of the run
 counts_are : (core : Core) (periods : Periods) (stoch : Stoch) (options : Options) → CanJoin core periods stoch options → is_crowded (source_of core periods stoch options) ≡ false → is_too_large (source_of core periods stoch options) ≡ false → CountFacts (program_with core periods stoch (frame_of (source_of core periods stoch options)) (scenarios_of stoch)) (nonleaf_of (source_of core periods stoch options))
 counts_are core periods stoch options can crowded vast =
@@ -215,10 +205,10 @@ counts_are core periods stoch options can crowded vast =
     let changes = or_right (has_many_cells n (length core.columns) (length core.rows) (nonleaf_of source)) (nat_lt 4194304 (sum_by (λ (s : Scenario). length s.changes) (map (scenario_of (parts_of core) frame) (scenarios_of stoch)))) vast in
     let both_cells = or_left (nat_lt 4194304 (n * length core.columns) || nat_lt 4194304 (n * length core.rows)) (nat_lt 1048576 (n * nonleaf_of source)) (regroup (nat_lt 4194304 (n * length core.columns)) (nat_lt 4194304 (n * length core.rows)) (nat_lt 1048576 (n * nonleaf_of source)) cells) in
     let leaf_cells = or_right (nat_lt 4194304 (n * length core.columns) || nat_lt 4194304 (n * length core.rows)) (nat_lt 1048576 (n * nonleaf_of source)) (regroup (nat_lt 4194304 (n * length core.columns)) (nat_lt 4194304 (n * length core.rows)) (nat_lt 1048576 (n * nonleaf_of source)) cells) in
-    let column_cells = at_most 4194304 (n * length core.columns) (or_left (nat_lt 4194304 (n * length core.columns)) (nat_lt 4194304 (n * length core.rows)) both_cells) in
-    let row_cells = at_most 4194304 (n * length core.rows) (or_right (nat_lt 4194304 (n * length core.columns)) (nat_lt 4194304 (n * length core.rows)) both_cells) in
+    let column_cells = not_less_from_test 4194304 (n * length core.columns) (or_left (nat_lt 4194304 (n * length core.columns)) (nat_lt 4194304 (n * length core.rows)) both_cells) in
+    let row_cells = not_less_from_test 4194304 (n * length core.rows) (or_right (nat_lt 4194304 (n * length core.columns)) (nat_lt 4194304 (n * length core.rows)) both_cells) in
     let some = count_some core periods stoch can.stoch_fits in
-    let few = at_most 4096 n crowded in
+    let few = not_less_from_test 4096 n crowded in
     let few_columns = core.facts.few_columns in
     let few_rows = core.facts.few_rows in
     record {
@@ -228,8 +218,8 @@ counts_are core periods stoch options can crowded vast =
       rows = omega (arith, few_rows, rows);
       column_cells = subst (λ m. m ≤ 4194304) (ap (λ a. a * length core.columns) (sym scenarios) ∙ ap (λ b. length (map (scenario_of (parts_of core) frame) (scenarios_of stoch)) * b) (sym columns)) column_cells;
       row_cells = subst (λ m. m ≤ 4194304) (ap (λ a. a * length core.rows) (sym scenarios) ∙ ap (λ b. length (map (scenario_of (parts_of core) frame) (scenarios_of stoch)) * b) (sym rows)) row_cells;
-      changes = at_most 4194304 (sum_by (λ (s : Scenario). length s.changes) (map (scenario_of (parts_of core) frame) (scenarios_of stoch))) changes;
-      nonleaf_cells = subst (λ m. m ≤ 1048576) (ap (λ a. a * nonleaf_of source) (sym scenarios)) (at_most 1048576 (n * nonleaf_of source) leaf_cells);
+      changes = not_less_from_test 4194304 (sum_by (λ (s : Scenario). length s.changes) (map (scenario_of (parts_of core) frame) (scenarios_of stoch))) changes;
+      nonleaf_cells = subst (λ m. m ≤ 1048576) (ap (λ a. a * nonleaf_of source) (sym scenarios)) (not_less_from_test 1048576 (n * nonleaf_of source) leaf_cells);
     }
   where
     regroup : (a b c : Bool) → (a || b || c) ≡ false → ((a || b) || c) ≡ false
@@ -287,7 +277,7 @@ run_is core periods stoch options can crowded vast narrow =
     let some = periods.facts.some in
     let few = periods.facts.few in
     let long = periods.facts.with_columns in
-    let crowd = at_most 4096 (count_of stoch) crowded in
+    let crowd = not_less_from_test 4096 (count_of stoch) crowded in
     let N : Program → Type 0 = λ q. run_reach q (options_of source options) (total_of source) (nonleaf_of source) ≤ 2 ^ 120 in
     let P : Program → Type 0 = λ q. RunFacts q (options_of source options) (total_of source) (nonleaf_of source) in
     subst P (sym (program_is core periods stoch options)) (record {

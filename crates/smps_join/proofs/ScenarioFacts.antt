@@ -1,5 +1,5 @@
 -- The scenarios of a run: their changes name what is there, no two are of one place, and those of columns with the single box 0 are left out.
-use Rattle.std.proofs.Common.{arith, refl, ◌≡◌, ℕ, suc, ◌<◌, nat_lt, Bool, true, false, List, [], ◌∷◌, length, ℤ, pos, ◌+ℤ◌, ◌-ℤ◌, unsigned_abs, Option, Some, None, if◌then◌else◌}
+use Rattle.std.proofs.Common.{arith, refl, ◌≡◌, suc, nat_lt, Bool, true, false, List, [], ◌∷◌, length, ℤ, pos, ◌+ℤ◌, ◌-ℤ◌, unsigned_abs, Option, Some, None, if◌then◌else◌}
 use Rattle.std.specs.Prelude.{IfSome}
 use Rattle.std.specs.Int.{int_max, int_min}
 use Rattle.std.specs.List.{All, AllByRecursion, AllPairs, cons_option, filter_map}
@@ -7,6 +7,7 @@ use Rattle.std.proofs.lemmas.Int.{clamps, ints}
 use Rattle.std.proofs.lemmas.List.Elements.{All-cons, recursion_from_All}
 use Rattle.std.proofs.lemmas.List.Kept.{AllPairs-cons}
 use Rattle.base_words.proofs.Comparisons.{both, test_from_most}
+use Rattle.base_words.proofs.NumberTests.{test_from_less}
 use Rattle.boxed_problem.specs.declared.parts.Side.{Side}
 use Rattle.dec_core.specs.Scale.{scaled_to}
 use Rattle.smps_words.specs.declared.core_data.RowKind.{RowKind}
@@ -66,9 +67,6 @@ limits_are Greater rhs (Some range) = test_from_most rhs (rhs +ℤ pos (unsigned
 limits_are Equal rhs None = test_from_most rhs rhs (omega (arith, ints))
 limits_are Equal rhs (Some range) = test_from_most (rhs +ℤ int_min range (pos 0)) (rhs +ℤ int_max range (pos 0)) (omega (arith, ints, clamps))
 
-below_test : (a b : ℕ) → a < b → nat_lt a b ≡ true
-below_test a b h = grind arith
-
 -- a change, unless its column has left the run
 unless : (idle : Bool) (c : Change) (P : Change → Type 0) → (idle ≡ false → P c) → IfSome (if idle then None else Some c) P
 unless true c P h = tt
@@ -79,9 +77,9 @@ pub change_is : (core : Core) (frame : Frame) (e : StochEntry) → IsPlace core 
 change_is core frame e there = by_place e.place there
   where
     by_place : (p : StochPlace) → IsPlace core p → IfSome (change_at (parts_of core) frame p e.value) (λ c. is_change (length core.rows) (length core.columns) c ≡ true)
-    by_place (place.Cost j) h = unless (is_idle frame.sides j) (Cost j (scaled_to e.value frame.cost_places)) (λ c. is_change (length core.rows) (length core.columns) c ≡ true) (λ live. below_test j (length core.columns) h)
-    by_place (place.Cell i j) h = unless (is_idle frame.sides j) (Cell i j (scaled_in frame i e.value)) (λ c. is_change (length core.rows) (length core.columns) c ≡ true) (λ live. both (nat_lt i (length core.rows)) (nat_lt j (length core.columns)) (below_test i (length core.rows) h.0) (below_test j (length core.columns) h.1))
-    by_place (place.Right i) h = both (nat_lt i (length core.rows)) (are_limits (lower_of (parts_of core) frame i e.value) (upper_of (parts_of core) frame i e.value)) (below_test i (length core.rows) h) (limits_are (row_at (parts_of core) i).kind (scaled_in frame i e.value) (range_of (parts_of core) frame i))
+    by_place (place.Cost j) h = unless (is_idle frame.sides j) (Cost j (scaled_to e.value frame.cost_places)) (λ c. is_change (length core.rows) (length core.columns) c ≡ true) (λ live. test_from_less j (length core.columns) h)
+    by_place (place.Cell i j) h = unless (is_idle frame.sides j) (Cell i j (scaled_in frame i e.value)) (λ c. is_change (length core.rows) (length core.columns) c ≡ true) (λ live. both (nat_lt i (length core.rows)) (nat_lt j (length core.columns)) (test_from_less i (length core.rows) h.0) (test_from_less j (length core.columns) h.1))
+    by_place (place.Right i) h = both (nat_lt i (length core.rows)) (are_limits (lower_of (parts_of core) frame i e.value) (upper_of (parts_of core) frame i e.value)) (test_from_less i (length core.rows) h) (limits_are (row_at (parts_of core) i).kind (scaled_in frame i e.value) (range_of (parts_of core) frame i))
 
 -- two changes of different places
 twice : (a b : Bool) (c d : Change) → is_same_place c d ≡ false → IfSome (if a then None else Some c) (λ x. IfSome (if b then None else Some d) (λ y. is_same_place x y ≡ false))

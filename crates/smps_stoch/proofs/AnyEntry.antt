@@ -10,6 +10,7 @@ use Rattle.std.proofs.lemmas.List.Elements.{All-head, All-tail}
 use Rattle.std.proofs.lemmas.List.Folds.{find_at, list_any_at, list_any_none}
 use Rattle.std.proofs.lemmas.List.Sums.{position_or_len_is}
 use Rattle.std.proofs.lemmas.Option.{slice_get-get_or}
+use Rattle.base_words.proofs.Comparisons.{both, left_fails}
 use Rattle.smps_words.specs.TextLines.{TextLine, no_line}
 use Rattle.smps_words.specs.declared.core_file.Core.{Core}
 use Rattle.smps_words.specs.declared.periods.Periods.{Periods}
@@ -27,27 +28,21 @@ use Rattle.smps_stoch.proofs.EntryLines.{goes_on_after}
 use Rattle.smps_stoch.proofs.LastEntries.{last_is, same_self, IsLast}
 use Rattle.smps_stoch.proofs.SaidLaws.{after, nothing_goes, nothing_well}
 
-and_off : (a b : Bool) → a ≡ false → (a && b) ≡ false
-and_off a b e = ap (λ (x : Bool). x && b) e
-
-and_on : (a b : Bool) → a ≡ true → b ≡ true → (a && b) ≡ true
-and_on a b e f = ap (λ (x : Bool). x && b) e ∙ f
-
 -- where a test of the last entry's kind passes, and where it fails for all entries of the place
 module _ (entries : List Owned) (place : StochPlace) (test : Owned → Bool) where
   abbrev Passes : Owned → Bool
   Passes owned = same_place owned.entry.place place && test owned
 
   none_of_place : All (λ owned. same_place owned.entry.place place ≡ false) entries → list_any Passes entries ≡ false
-  none_of_place none = list_any_none Passes entries (λ k d lt. and_off _ _ (none k d lt))
+  none_of_place none = list_any_none Passes entries (λ k d lt. left_fails _ _ (none k d lt))
 
   last_passes : (last : Owned) → Contains entries last → same_place last.entry.place place ≡ true → test last ≡ true → list_any Passes entries ≡ true
   last_passes last (k, lt, at) same on =
-      list_any_at Passes entries k last lt (subst (λ (o : Owned). Passes o ≡ true) (sym at) (and_on _ _ same on))
+      list_any_at Passes entries k last lt (subst (λ (o : Owned). Passes o ≡ true) (sym at) (both _ _ same on))
 
   one_fails : (owned : Owned) (same : Bool) → same_place owned.entry.place place ≡ same → (same ≡ true → test owned ≡ false) → Passes owned ≡ false
   one_fails owned true is fails = ap (λ (x : Bool). x && test owned) is ∙ fails refl
-  one_fails owned false is fails = and_off _ _ is
+  one_fails owned false is fails = left_fails _ _ is
 
   all_fail : All (λ owned. same_place owned.entry.place place ≡ true → test owned ≡ false) entries → list_any Passes entries ≡ false
   all_fail fail = list_any_none Passes entries (λ k d lt. one_fails (get_or entries k d) (same_place (get_or entries k d).entry.place place) refl (λ same. fail k d lt same))

@@ -5,12 +5,13 @@ use Rattle.std.specs.List.{All, list_any}
 use Rattle.std.proofs.lemmas.List.{append-nil, append_assoc, get_or-map, get_or_append_left, get_or_at, length-map, map-append}
 use Rattle.std.proofs.lemmas.List.Elements.{All-head, All-nil, All-push, All-tail}
 use Rattle.std.proofs.lemmas.List.Sums.{passes_at_first}
+use Rattle.base_words.proofs.Positions.{place_there}
 use Rattle.smps_words.proofs.ToldLaws.{told_push}
 use Rattle.smps_words.specs.TextLines.{TextLine}
 use Rattle.smps_words.specs.declared.core_file.Core.{Core}
 use Rattle.smps_words.specs.declared.periods.Periods.{Periods}
 use Rattle.stoch_lines.proofs.Adding.{one_more}
-use Rattle.stoch_lines.proofs.Positions.{none_passes, some_passes}
+use Rattle.stoch_lines.proofs.Positions.{none_passes}
 use Rattle.stoch_lines.specs.Before.{blocks_of, realisations_of, sayings_of, section_of, sources_of, Before}
 use Rattle.stoch_lines.specs.Places.{same_source}
 use Rattle.stoch_lines.specs.Sayings.{begins_block, block_saying, chosen_by, element_of, indep_saying, saying_in, sayings, with_source}
@@ -73,7 +74,7 @@ one_more_by said sources realisations saying true is facts = record {
   chosen = ap (λ (rs : List Chosen). rs ++ chosen_by sources saying ∷ []) facts.chosen ∙ sym (map-append (chosen_by sources) said (saying ∷ []));
   known = All-push (λ (s : Saying). list_any (same_source s.source) sources ≡ true) said saying facts.known is;
   used = λ k lt. still_used realisations (chosen_by sources saying) k (facts.used k lt);
-  ordered = order_more realisations (chosen_by sources saying) facts.ordered (λ k less. facts.used k (omega (arith, less, some_passes (same_source saying.source) sources is)));
+  ordered = order_more realisations (chosen_by sources saying) facts.ordered (λ k less. facts.used k (omega (arith, less, place_there (same_source saying.source) sources is)));
 }
 one_more_by said sources realisations saying false is facts =
     let all = sources ++ saying.source ∷ [] in
@@ -152,8 +153,8 @@ module _ (core : Core) (periods : Periods) where
   -- two sources that are there have one number exactly where they are the same
   one_number : (sources : List Source) (a b : Source) → list_any (same_source a) sources ≡ true → list_any (same_source b) sources ≡ true → element_of sources a ≡ element_of sources b → same_source a b ≡ true
   one_number sources a b has_a has_b same =
-      let at_a = source_is a _ (passes_at_first (same_source a) sources a (some_passes (same_source a) sources has_a)) in
-      let at_b = source_is b _ (passes_at_first (same_source b) sources a (some_passes (same_source b) sources has_b)) in
+      let at_a = source_is a _ (passes_at_first (same_source a) sources a (place_there (same_source a) sources has_a)) in
+      let at_b = source_is b _ (passes_at_first (same_source b) sources a (place_there (same_source b) sources has_b)) in
       let equal : a ≡ b = at_a ∙ ap (λ (n : ℕ). get_or sources n a) same ∙ sym at_b in
       subst (λ (x : Source). same_source a x ≡ true) equal (source_self a)
 

@@ -6,9 +6,9 @@ use Rattle.std.specs.Str.{bytes_eq}
 use Rattle.std.proofs.lemmas.List.{append-nil, append_assoc, get_or_append_left, get_or_at, take-append-le, take_at}
 use Rattle.std.proofs.lemmas.List.Sums.{passes_at_first}
 use Rattle.std.proofs.lemmas.Slice.Eq.{bytes_eq-Decides}
+use Rattle.base_words.proofs.Positions.{place_there}
 use Rattle.smps_words.specs.TextLines.{TextLine, field, no_line}
 use Rattle.stoch_lines.proofs.Adding.{blocks_more}
-use Rattle.stoch_lines.proofs.Positions.{some_passes}
 use Rattle.stoch_lines.specs.Before.{blocks_of, section_of}
 use Rattle.stoch_lines.specs.Sayings.{is_block_line, with_name}
 use Rattle.smps_stoch.specs.LawWords.{block_at, is_block_at, line_at, AreByName}
@@ -97,7 +97,7 @@ by_name lines m n m_lt n_lt is_m is_n =
     let has_m = facts m m_lt is_m in
     let has_n = facts n n_lt is_n in
     let at : (name : List ℕ) → list_any (bytes_eq name) blocks ≡ true → name ≡ get_or blocks (position_or_len (bytes_eq name) blocks) [] = λ name known.
-    (bytes_eq-Decides name (get_or blocks (position_or_len (bytes_eq name) blocks) [])).0 (passes_at_first (bytes_eq name) blocks [] (some_passes (bytes_eq name) blocks known)) in (
+    (bytes_eq-Decides name (get_or blocks (position_or_len (bytes_eq name) blocks) [])).0 (passes_at_first (bytes_eq name) blocks [] (place_there (bytes_eq name) blocks known)) in (
       (λ same. at one has_m.0 ∙ ap (λ (k : ℕ). get_or blocks k []) (sym has_m.1 ∙ same ∙ has_n.1) ∙ sym (at other has_n.0)),
       (λ same. has_m.1 ∙ ap (λ (name : List ℕ). position_or_len (bytes_eq name) blocks) same ∙ sym has_n.1),
     )

@@ -6,6 +6,7 @@ use Rattle.std.proofs.lemmas.List.{map-append, get_or_default, get_or-replicate,
 use Rattle.std.proofs.lemmas.List.Elements.{All-filter}
 use Rattle.std.proofs.lemmas.List.FromFn.{length-map-range_with_len}
 use Rattle.std.proofs.lemmas.List.Sums.{fold-append}
+use Rattle.base_words.proofs.Made.{made_at, same_made}
 use Rattle.dec_core.specs.declared.decimal.Decimal.{Decimal}
 use Rattle.dec_core.specs.DecimalValue.{max_places}
 use Rattle.dec_core.specs.Scale.{common_places, scaled_to}
@@ -17,11 +18,11 @@ use Rattle.smps_stoch.specs.declared.stoch.Branch.{Branch}
 use Rattle.smps_stoch.specs.declared.stoch.Element.{Element}
 use Rattle.smps_stoch.specs.declared.stoch.Realisation.{Realisation}
 use Rattle.smps_stoch.specs.declared.drafts.Draft.{Draft}
-use Rattle.smps_stoch.specs.StochData.{branch_at, draft_at, drafts_at, element_at, elements_of, entries_at, no_choice, no_scenario, places_of, weighed_at}
+use Rattle.smps_stoch.specs.StochData.{branch_at, draft_at, drafts_at, element_at, elements_of, entries_at, no_choice, no_scenario, probability_places, weighed_at}
 use Rattle.smps_stoch.specs.ElementSteps.{branches_with, drafts_with, element_so_far, elements_so_far, places_by, AreEnough, AreFew, GrowsBranches, GrowsDrafts, GrowsElements, GrowsPlaces}
 use Rattle.smps_stoch.specs.SaidFacts.{IsProbable}
 use Rattle.smps_stoch.proofs.Weighing.{passing_above, places_small}
-use Rattle.smps_stoch.proofs.Filling.{grown, kept, keyed_same, keyed_other, made_at, one_more_made, same_made}
+use Rattle.smps_stoch.proofs.Filling.{grown, kept, keyed_same, keyed_other, one_more_made}
 
 entries_same : (entries : List Owned) (owned : Owned) → entries_at (entries ++ owned ∷ []) owned.choice ≡ entries_at entries owned.choice ++ owned.entry ∷ []
 entries_same entries owned =
@@ -52,7 +53,7 @@ branch_other : (places : ℕ) (scenarios : List ScenarioHead) (entries : List Ow
 branch_other places scenarios entries owned j other = ap (branch_with (branch_at places scenarios entries j)) (entries_other entries owned j other)
 
 -- one more entry goes to its realisation
-pub drafts_grow : (before after : List Draft) (owned : Owned) (draft : Draft) → owned.choice < length before → draft ≡ get_or before owned.choice draft → after ≡ set before owned.choice (with_entry draft owned.entry) → GrowsDrafts before owned after
+drafts_grow : (before after : List Draft) (owned : Owned) (draft : Draft) → owned.choice < length before → draft ≡ get_or before owned.choice draft → after ≡ set before owned.choice (with_entry draft owned.entry) → GrowsDrafts before owned after
 drafts_grow before after owned draft within at made rs entries n is =
     grown (draft_at rs entries) (draft_at rs (entries ++ owned ∷ [])) n owned.choice before after draft (with_entry draft owned.entry) is within at made
     (λ same. ap (draft_with (get_or rs owned.choice no_choice)) (entries_same entries owned) ∙ ap (λ (d : Draft). with_entry d owned.entry) same)
@@ -63,7 +64,7 @@ drafts_stay before owned past rs entries n is =
     kept (draft_at rs entries) (draft_at rs (entries ++ owned ∷ [])) n owned.choice before is past (draft_other rs entries owned)
 
 -- one more entry goes to its scenario
-pub branches_grow : (before after : List Branch) (owned : Owned) (branch : Branch) → owned.choice < length before → branch ≡ get_or before owned.choice branch → after ≡ set before owned.choice (with_branch_entry branch owned.entry) → GrowsBranches before owned after
+branches_grow : (before after : List Branch) (owned : Owned) (branch : Branch) → owned.choice < length before → branch ≡ get_or before owned.choice branch → after ≡ set before owned.choice (with_branch_entry branch owned.entry) → GrowsBranches before owned after
 branches_grow before after owned branch within at made places scenarios entries n is =
     grown (branch_at places scenarios entries) (branch_at places scenarios (entries ++ owned ∷ [])) n owned.choice before after branch (with_branch_entry branch owned.entry) is within at made
     (λ same. ap (branch_with (branch_at places scenarios entries owned.choice)) (entries_same entries owned) ∙ ap (λ (b : Branch). with_branch_entry b owned.entry) same)
@@ -74,27 +75,27 @@ branches_stay before owned past places scenarios entries n is =
     kept (branch_at places scenarios entries) (branch_at places scenarios (entries ++ owned ∷ [])) n owned.choice before is past (branch_other places scenarios entries owned)
 
 -- the greatest number of places with one more realisation
-places_more : (drafts : List Draft) (draft : Draft) → places_of (drafts ++ draft ∷ []) ≡ max (places_of drafts) draft.probability.places
+places_more : (drafts : List Draft) (draft : Draft) → probability_places (drafts ++ draft ∷ []) ≡ max (probability_places drafts) draft.probability.places
 places_more drafts draft =
     ap common_places (map-append (λ (d : Draft). d.probability) drafts (draft ∷ []))
     ∙ fold-append (λ (most : ℕ) (item : Decimal). max most item.places) 0 (map (λ (d : Draft). d.probability) drafts) (draft.probability ∷ [])
 
-places_other : (drafts : List Draft) (draft : Draft) (j : ℕ) → (j ≡ draft.element → ⊥) → places_of (drafts_at (drafts ++ draft ∷ []) j) ≡ places_of (drafts_at drafts j)
-places_other drafts draft j other = ap places_of (keyed_other (λ (x : Draft). x.element) drafts draft j other)
+places_other : (drafts : List Draft) (draft : Draft) (j : ℕ) → (j ≡ draft.element → ⊥) → probability_places (drafts_at (drafts ++ draft ∷ []) j) ≡ probability_places (drafts_at drafts j)
+places_other drafts draft j other = ap probability_places (keyed_other (λ (x : Draft). x.element) drafts draft j other)
 
 -- one more realisation counts for its element
 pub places_grow : (before after : List ℕ) (draft : Draft) (x : ℕ) → draft.element < length before → x ≡ get_or before draft.element x → after ≡ set before draft.element (max x draft.probability.places) → GrowsPlaces before draft after
 places_grow before after draft x within at made drafts n is =
-    grown (λ k. places_of (drafts_at drafts k)) (λ k. places_of (drafts_at (drafts ++ draft ∷ []) k)) n draft.element before after x (max x draft.probability.places) is within at made
+    grown (λ k. probability_places (drafts_at drafts k)) (λ k. probability_places (drafts_at (drafts ++ draft ∷ []) k)) n draft.element before after x (max x draft.probability.places) is within at made
     (λ same.
-    ap places_of (keyed_same (λ (d : Draft). d.element) drafts draft draft.element refl)
+    ap probability_places (keyed_same (λ (d : Draft). d.element) drafts draft draft.element refl)
     ∙ places_more (drafts_at drafts draft.element) draft
     ∙ ap (λ (p : ℕ). max p draft.probability.places) same)
     (places_other drafts draft)
 
 pub places_stay : (before : List ℕ) (draft : Draft) → length before ≤ draft.element → GrowsPlaces before draft before
 places_stay before draft past drafts n is =
-    kept (λ k. places_of (drafts_at drafts k)) (λ k. places_of (drafts_at (drafts ++ draft ∷ []) k)) n draft.element before is past (places_other drafts draft)
+    kept (λ k. probability_places (drafts_at drafts k)) (λ k. probability_places (drafts_at (drafts ++ draft ∷ []) k)) n draft.element before is past (places_other drafts draft)
 
 -- an element with one more realisation
 abbrev pub with_realisation : Element → Realisation → Element
@@ -108,7 +109,7 @@ element_other periods places drafts draft j other =
     ap (element_with (slice_index periods j)) (ap (map (weighed_at (slice_index places j))) (keyed_other (λ (d : Draft). d.element) drafts draft j other))
 
 -- one more realisation goes to its element
-pub elements_grow : (places : List ℕ) (before after : List Element) (draft : Draft) (element : Element) → draft.element < length before → element ≡ get_or before draft.element element → after ≡ set before draft.element (with_realisation element (weighed_at (slice_index places draft.element) draft)) → GrowsElements places before draft after
+elements_grow : (places : List ℕ) (before after : List Element) (draft : Draft) (element : Element) → draft.element < length before → element ≡ get_or before draft.element element → after ≡ set before draft.element (with_realisation element (weighed_at (slice_index places draft.element) draft)) → GrowsElements places before draft after
 elements_grow places before after draft element within at made periods drafts n is =
     let weigh = weighed_at (slice_index places draft.element) in
     grown (element_so_far periods places drafts) (element_so_far periods places (drafts ++ draft ∷ [])) n draft.element before after element (with_realisation element (weigh draft)) is within at made
@@ -125,7 +126,7 @@ elements_stay places before draft past periods drafts n is =
 -- with all realisations and the places of all, the elements are those of the file
 pub elements_made : (periods places : List ℕ) (drafts : List Draft) → places ≡ places_by drafts (length periods) → elements_so_far periods places drafts (length periods) ≡ elements_of periods drafts
 elements_made periods places drafts same =
-    let f = λ (k : ℕ). places_of (drafts_at drafts k) in
+    let f = λ (k : ℕ). probability_places (drafts_at drafts k) in
     same_made (element_so_far periods places drafts) (element_at periods drafts) (length periods) (λ j lt.
     let at : slice_index places j ≡ f j = ap (λ (ps : List ℕ). slice_index ps j) same ∙ made_at f (length periods) j 0 lt in
     ap (λ (p : ℕ). element_with (slice_index periods j) (map (weighed_at p) (drafts_at drafts j))) at)
@@ -160,7 +161,7 @@ elements_more periods places before after i d rs lt none is made =
 -- no realisation has places
 pub places_none : (n : ℕ) → replicate n 0 ≡ places_by [] n
 places_none n =
-    let f = λ (k : ℕ). places_of (drafts_at [] k) in
+    let f = λ (k : ℕ). probability_places (drafts_at [] k) in
     same_lists (replicate n 0) (map f (range_with_len 0 n)) (length-replicate n 0 ∙ sym (length-map-range_with_len f 0 n)) (λ j d lt.
     let below : j < n = subst (λ (m : ℕ). j < m) (length-replicate n 0) lt in
     get_or-replicate n j 0 d below ∙ sym (made_at f n j d below))
@@ -169,7 +170,7 @@ places_none n =
 pub enough_places : (drafts : List Draft) (places : List ℕ) (n : ℕ) → places ≡ places_by drafts n → All (AreEnough places) drafts
 enough_places drafts places n is k d lt within =
     let draft = get_or drafts k d in
-    let f = λ (j : ℕ). places_of (drafts_at drafts j) in
+    let f = λ (j : ℕ). probability_places (drafts_at drafts j) in
     let below : draft.element < n = subst (λ (m : ℕ). draft.element < m) (ap (λ (xs : List ℕ). length xs) is ∙ length-map-range_with_len f 0 n) within in
     let at : slice_index places draft.element ≡ f draft.element = ap (λ (xs : List ℕ). slice_index xs draft.element) is ∙ made_at f n draft.element 0 below in
     subst (λ (p : ℕ). draft.probability.places ≤ p) (sym at)
@@ -178,14 +179,14 @@ enough_places drafts places n is k d lt within =
 pub few_places : (drafts : List Draft) (places : List ℕ) (n : ℕ) → places ≡ places_by drafts n → All (λ draft. IsProbable draft.probability) drafts → All (AreFew places) drafts
 few_places drafts places n is probable k d lt within =
     let draft = get_or drafts k d in
-    let f = λ (j : ℕ). places_of (drafts_at drafts j) in
+    let f = λ (j : ℕ). probability_places (drafts_at drafts j) in
     let below : draft.element < n = subst (λ (m : ℕ). draft.element < m) (ap (λ (xs : List ℕ). length xs) is ∙ length-map-range_with_len f 0 n) within in
     let at : slice_index places draft.element ≡ f draft.element = ap (λ (xs : List ℕ). slice_index xs draft.element) is ∙ made_at f n draft.element 0 below in
     subst (λ (p : ℕ). p ≤ max_places) (sym at)
     (places_small (λ (x : Draft). x.probability) (drafts_at drafts draft.element) (All-filter (λ (x : Draft). x.element == draft.element) (λ (x : Draft). IsProbable x.probability) drafts probable))
 
 pub each_place : (drafts : List Draft) (places : List ℕ) (n : ℕ) → places ≡ places_by drafts n → length places ≡ n
-each_place drafts places n is = ap (λ (xs : List ℕ). length xs) is ∙ length-map-range_with_len (λ (j : ℕ). places_of (drafts_at drafts j)) 0 n
+each_place drafts places n is = ap (λ (xs : List ℕ). length xs) is ∙ length-map-range_with_len (λ (j : ℕ). probability_places (drafts_at drafts j)) 0 n
 
 -- an entry that is pushed where its realisation or scenario stands
 pub draft_pushed : (drafts : List Draft) (owned : Owned) (draft : Draft) (es : List StochEntry) → owned.choice < length drafts → draft ≡ get_or drafts owned.choice draft → es ≡ draft.entries ++ owned.entry ∷ [] → GrowsDrafts drafts owned (set drafts owned.choice (record { element = draft.element; probability = draft.probability; entries = es }))

@@ -6,6 +6,8 @@ use Rattle.std.specs.Option.{option_map_or}
 use Rattle.std.proofs.lemmas.List.{append-nil, get_or_at}
 use Rattle.std.proofs.lemmas.List.Elements.{All-nil, All-cons}
 use Rattle.std.proofs.lemmas.Option.{unwrap_or-slice_get}
+use Rattle.base_words.proofs.Comparisons.{not_not}
+use Rattle.base_words.proofs.Booleans.{neither}
 use Rattle.smps_words.specs.Tables.{first_true, ◌or◌}
 use Rattle.smps_words.specs.TextLines.{TextLine, field, field_count, is_header, is_end}
 use Rattle.smps_words.specs.declared.core_file.Core.{Core}
@@ -27,9 +29,9 @@ use Rattle.smps_stoch.specs.SaidFacts.{chosen_element, AreOwned, GoesOnWell, IsS
 use Rattle.smps_stoch.specs.StochData.{no_choice}
 use Rattle.smps_stoch.specs.StochFacts.{IsEntry}
 use Rattle.smps_stoch.proofs.EntryLaws.{entry_well}
-use Rattle.smps_stoch.proofs.FieldLaws.{first_none, or_none, not_false}
+use Rattle.smps_stoch.proofs.FieldLaws.{first_none, or_none}
 use Rattle.smps_stoch.proofs.LastEntries.{kept, IsBefore, IsKept}
-use Rattle.smps_stoch.proofs.Owning.{either, kept_all, owned_more, realisation_more, repeated_not, scenario_more, AreNew}
+use Rattle.smps_stoch.proofs.Owning.{kept_all, owned_more, realisation_more, repeated_not, scenario_more, AreNew}
 
 -- the element of the last realisation
 element_or : (at : Option Chosen) → option_map_or (λ r. r.element) at 0 ≡ (unwrap_or at no_choice).element
@@ -104,7 +106,7 @@ module _ (core : Core) (periods : Periods) (b : Before) (line : TextLine) where
       let earliest = slice_index_or b.periods element 0 in
       let twice = is_twice_in_block b places in
       let parts = or_none (pairs_fault core line) (places_rules periods earliest twice places) none in
-      let tests = either (list_any (is_taken b.entries element) places) (is_repeated b.entries choice places) (not_twice earliest twice places parts.1) in
+      let tests = neither (list_any (is_taken b.entries element) places) (is_repeated b.entries choice places) (not_twice earliest twice places parts.1) in
       let rest = repeated_not b.entries facts.apart choice (λ k d lt. omega (arith, facts.there k d lt, no_scenarios)) (entries_at core line) tests.1 in
       let new : AreNew b.entries element choice (entries_at core line) = record {
         kept = kept_all b.entries facts.apart element (entries_at core line) tests.0;
@@ -193,12 +195,12 @@ module _ (core : Core) (periods : Periods) (b : Before) (line : TextLine) where
 
   by_word : (stoch ends : Bool) → ends ≡ false → GoesOnWell b → (if stoch then first_true ((not b.nothing, Section) ∷ []) else (if ends then first_true ((not (field_count line == 1), Fields) ∷ []) else section_fault b.section line)) ≡ None → IsSection (heading_of (field 0 line)) (length b.realisations) (length b.scenarios)
   by_word true ends going goes none =
-      let nothing = not_false b.nothing (first_none (not b.nothing) Section [] none).0 in
+      let nothing = not_not b.nothing (first_none (not b.nothing) Section [] none).0 in
       any_section (heading_of (field 0 line)) (length b.realisations) (length b.scenarios) (goes.nothing nothing).0 (goes.nothing nothing).1
   by_word false true going goes none = absurd (cc going)
   by_word false false going goes none =
       let may = first_none (not (may_follow (heading_of (field 0 line)) b.section)) Section ((not (has_mode line), Mode) ∷ []) none in
-      next_section (heading_of (field 0 line)) b.section (length b.realisations) (length b.scenarios) goes.section (not_false (may_follow (heading_of (field 0 line)) b.section) may.0)
+      next_section (heading_of (field 0 line)) b.section (length b.realisations) (length b.scenarios) goes.section (not_not (may_follow (heading_of (field 0 line)) b.section) may.0)
 
   -- what is there behind a line of data
   abbrev IsThere : Option Heading → List Chosen → List ScenarioHead → Type 0

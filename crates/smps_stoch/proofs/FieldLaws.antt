@@ -5,6 +5,7 @@ use Rattle.std.specs.Result.{result_unwrap_or}
 use Rattle.std.specs.Str.{bytes_eq}
 use Rattle.std.proofs.Math.Nat.{le_refl, le_trans}
 use Rattle.std.proofs.lemmas.List.Sums.{count_by-le-length}
+use Rattle.base_words.proofs.Comparisons.{not_not}
 use Rattle.dec_core.proofs.LimitLaws.{within_is}
 use Rattle.dec_core.specs.DecimalValue.{decimal_of, decimal_of_spelling, mantissa_of, max_places, places_of}
 use Rattle.dec_core.specs.Spelling.{Spelling, spelling_of}
@@ -34,10 +35,6 @@ pub first_none : {K : Type 0} (test : Bool) (kind : K) (rest : List (Bool × K))
 first_none true kind rest e = absurd (cc e)
 first_none false kind rest e = (refl, e)
 
-pub not_false : (b : Bool) → not b ≡ false → b ≡ true
-not_false true e = refl
-not_false false e = absurd (cc e)
-
 -- a number that is read has few places
 of_spelling : (s : Option Spelling) (d : Decimal) → decimal_of_spelling s ≡ Ok d → d.places ≤ max_places
 of_spelling None d e = absurd (cc e)
@@ -58,7 +55,7 @@ pub probable : (text : List ℕ) → probability_fault text ≡ None → IsProba
 probable text none =
     let parts = or_none (number_fault text) (first_true ((not (is_probability (number_in text)), Weight) ∷ [])) none in
     let test = first_none (not (is_probability (number_in text))) Weight [] parts.1 in
-    record { in_range = not_false (is_probability (number_in text)) test.0; places = few_places (decimal_of text) (read_places text) }
+    record { in_range = not_not (is_probability (number_in text)) test.0; places = few_places (decimal_of text) (read_places text) }
 
 -- a period that is named is there
 period_at : (periods : Periods) (name : List ℕ) (at : Option ℕ) (other : ℕ) → position (bytes_eq name) periods.names ≡ at → is_none (option_map (λ k. k + 1) at) ≡ false → IsPeriod periods (unwrap_or (option_map (λ k. k + 1) at) other)

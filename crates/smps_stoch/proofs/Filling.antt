@@ -1,47 +1,18 @@
 -- Lists made by a number of their place, of which one place changes at a time.
-use Rattle.std.proofs.Common.{◌≡◌, refl, sym, ap, ◌∙◌, ℕ, ◌+◌, ◌<◌, ◌≤◌, ◌==◌, Bool, true, false, cond, zero, suc, List, [], ◌∷◌, ◌++◌, length, map, set, get_or, subst, inl, inr, arith, eq-eqb}
+use Rattle.std.proofs.Common.{◌≡◌, refl, sym, ap, ◌∙◌, ℕ, ◌+◌, ◌<◌, ◌≤◌, ◌==◌, Bool, true, false, cond, zero, suc, List, [], ◌∷◌, ◌++◌, length, map, set, get_or, subst, arith, eq-eqb}
 use Rattle.std.specs.Prelude.{filter}
 use Rattle.std.specs.List.{All, range_with_len}
-use Rattle.std.proofs.lemmas.Bool.{cases_eq}
-use Rattle.std.proofs.lemmas.List.{same_lists, length-set, get_or-set_same, get_or-set_other, append-nil}
+use Rattle.std.proofs.lemmas.List.{append-nil}
 use Rattle.std.proofs.lemmas.List.Elements.{filter-append}
-use Rattle.std.proofs.lemmas.List.FromFn.{length-map-range_with_len, get_or-map-range_with_len, map-range_with_len_more}
+use Rattle.std.proofs.lemmas.List.FromFn.{length-map-range_with_len, map-range_with_len_more}
+use Rattle.base_words.proofs.Made.{changed, made_at, same_made}
 
 module _ {X : Type 0} where
-  -- the k-th item of a list made by the numbers of its places
-  pub made_at : (f : ℕ → X) (n k : ℕ) (d : X) → k < n → get_or (map f (range_with_len 0 n)) k d ≡ f k
-  made_at f n k d lt = get_or-map-range_with_len f 0 n k k d lt (omega arith)
-
-  -- two such lists are the same where they agree at each place
-  pub same_made : (f g : ℕ → X) (n : ℕ) → ((j : ℕ) → j < n → f j ≡ g j) → map f (range_with_len 0 n) ≡ map g (range_with_len 0 n)
-  same_made f g n same =
-      same_lists (map f (range_with_len 0 n)) (map g (range_with_len 0 n))
-      (length-map-range_with_len f 0 n ∙ sym (length-map-range_with_len g 0 n))
-      (λ j d lt.
-      let below : j < n = subst (λ (m : ℕ). j < m) (length-map-range_with_len f 0 n) lt in
-      made_at f n j d below ∙ same j below ∙ sym (made_at g n j d below))
-
   -- what holds at each place holds of the list's items
   pub all_made : (P : X → Type 0) (f : ℕ → X) (n : ℕ) → ((k : ℕ) → k < n → P (f k)) → All P (map f (range_with_len 0 n))
   all_made P f n holds k d lt =
       let below : k < n = subst (λ (m : ℕ). k < m) (length-map-range_with_len f 0 n) lt in
       subst P (sym (made_at f n k d below)) (holds k below)
-
-  -- one place is changed
-  pub changed : (f g : ℕ → X) (n k : ℕ) (y : X) → k < n → g k ≡ y → ((j : ℕ) → (j ≡ k → ⊥) → g j ≡ f j) → map g (range_with_len 0 n) ≡ set (map f (range_with_len 0 n)) k y
-  changed f g n k y within at others =
-      let fs = map f (range_with_len 0 n) in
-      let long : length fs ≡ n = length-map-range_with_len f 0 n in
-      same_lists (map g (range_with_len 0 n)) (set fs k y)
-      (length-map-range_with_len g 0 n ∙ sym long ∙ sym (length-set fs k y))
-      (λ j d lt.
-      let below : j < n = subst (λ (m : ℕ). j < m) (length-map-range_with_len g 0 n) lt in
-      elim (cases_eq j k) [
-        | inl same ↦ made_at g n j d below ∙ ap g same ∙ at
-            ∙ sym (get_or-set_same fs k y d (subst (λ (m : ℕ). k < m) (sym long) within))
-            ∙ ap (λ (m : ℕ). get_or (set fs k y) m d) (sym same)
-        | inr other ↦ made_at g n j d below ∙ others j other ∙ sym (made_at f n j d below) ∙ sym (get_or-set_other fs k j y d other)
-      ])
 
   -- a list of which one item has changed is that of the new function
   pub grown : (f g : ℕ → X) (n k : ℕ) (before after : List X) (x y : X) → before ≡ map f (range_with_len 0 n) → k < length before → x ≡ get_or before k x → after ≡ set before k y → (f k ≡ x → g k ≡ y) → ((j : ℕ) → (j ≡ k → ⊥) → g j ≡ f j) → after ≡ map g (range_with_len 0 n)
@@ -49,7 +20,7 @@ module _ {X : Type 0} where
       let long : length before ≡ n = ap (λ (xs : List X). length xs) is ∙ length-map-range_with_len f 0 n in
       let lt : k < n = subst (λ (m : ℕ). k < m) long within in
       let same : f k ≡ x = sym (made_at f n k x lt) ∙ ap (λ (xs : List X). get_or xs k x) (sym is) ∙ sym at in
-      made ∙ ap (λ (xs : List X). set xs k y) is ∙ sym (changed f g n k y lt (next same) others)
+      made ∙ ap (λ (xs : List X). set xs k y) is ∙ changed f g n k y lt (next same) others
 
   -- and one of which none has changed
   pub kept : (f g : ℕ → X) (n k : ℕ) (before : List X) → before ≡ map f (range_with_len 0 n) → length before ≤ k → ((j : ℕ) → (j ≡ k → ⊥) → g j ≡ f j) → before ≡ map g (range_with_len 0 n)

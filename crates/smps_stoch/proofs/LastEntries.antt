@@ -1,5 +1,5 @@
 -- The last entry of a place tells what all entries of that place are.
-use Rattle.std.proofs.Common.{◌≡◌, refl, sym, ap, ◌∙◌, subst, ℕ, suc, ◌<◌, ◌≤◌, ◌==◌, Bool, true, false, not, cond, ◌&&◌, List, [], ◌∷◌, get_or, Option, Some, None, arith}
+use Rattle.std.proofs.Common.{◌≡◌, refl, sym, ap, ◌∙◌, subst, ℕ, suc, ◌<◌, ◌≤◌, ◌==◌, Bool, true, false, not, cond, List, [], ◌∷◌, get_or, Option, Some, None, arith}
 use Rattle.std.specs.Prelude.{find, reverse}
 use Rattle.std.specs.List.{All, AllPairs, Contains}
 use Rattle.std.specs.Option.{option_map_or, option_or}
@@ -7,16 +7,14 @@ use Rattle.std.proofs.lemmas.Bool.Decides.{nat_tests}
 use Rattle.std.proofs.lemmas.List.{reverse-append}
 use Rattle.std.proofs.lemmas.List.Elements.{All-nil, All-cons}
 use Rattle.std.proofs.lemmas.List.Folds.{find-append}
+use Rattle.base_words.proofs.Pairs.{pairs_head, pairs_tail}
+use Rattle.base_words.proofs.Comparisons.{both_parts}
 use Rattle.stoch_lines.specs.Faults.{is_given, is_taken, last_at}
 use Rattle.stoch_lines.specs.Places.{same_place}
 use Rattle.stoch_lines.specs.declared.entries.Owned.{Owned}
 use Rattle.stoch_lines.specs.declared.places.StochPlace.{StochPlace}
 use Rattle.stoch_lines.specs.declared.places.StochPlace.TheVariants.{Cost, Cell, Right}
 use Rattle.smps_stoch.specs.SaidFacts.{Follows}
-
-both_true : (a b : Bool) → (a && b) ≡ true → (a ≡ true) × (b ≡ true)
-both_true true b e = (refl, e)
-both_true false b e = absurd (cc e)
 
 -- a place is the same exactly as itself
 pub same_is : (p q : StochPlace) → same_place p q ≡ true → p ≡ q
@@ -25,7 +23,7 @@ same_is (Cost a) (Cell c d) e = absurd (cc e)
 same_is (Cost a) (Right b) e = absurd (cc e)
 same_is (Cell a b) (Cost c) e = absurd (cc e)
 same_is (Cell a b) (Cell c d) e =
-    let parts = both_true (a == c) (b == d) e in
+    let parts = both_parts (a == c) (b == d) e in
     let row : a ≡ c = grind (arith, parts.0) in
     let column : b ≡ d = grind (arith, parts.1) in
     cc
@@ -40,12 +38,12 @@ same_self (Cell a b) = grind arith
 same_self (Right a) = grind arith
 
 -- two that are the same as a third
-pub same_both : (p q r : StochPlace) → same_place p r ≡ true → same_place q r ≡ true → same_place p q ≡ true
+same_both : (p q r : StochPlace) → same_place p r ≡ true → same_place q r ≡ true → same_place p q ≡ true
 same_both p q r e f =
     let same : p ≡ q = same_is p r e ∙ sym (same_is q r f) in
     subst (λ (x : StochPlace). same_place p x ≡ true) same (same_self p)
 
-pub same_sym : (p q : StochPlace) → same_place p q ≡ false → same_place q p ≡ false
+same_sym : (p q : StochPlace) → same_place p q ≡ false → same_place q p ≡ false
 same_sym (Cost a) (Cost b) e = grind (arith, e)
 same_sym (Cost a) (Cell c d) e = refl
 same_sym (Cost a) (Right b) e = refl
@@ -55,13 +53,6 @@ same_sym (Cell a b) (Right c) e = refl
 same_sym (Right a) (Cost b) e = refl
 same_sym (Right a) (Cell c d) e = refl
 same_sym (Right a) (Right b) e = grind (arith, e)
-
--- of pairs of a list's items, those of the first one, and those of the rest
-pub pairs_head : {X : Type 0} (R : X → X → Type 0) (x : X) (xs : List X) → AllPairs R (x ∷ xs) → All (R x) xs
-pairs_head R x xs pairs k d lt = pairs 0 (suc k) d (omega arith) (omega (arith, lt))
-
-pub pairs_tail : {X : Type 0} (R : X → X → Type 0) (x : X) (xs : List X) → AllPairs R (x ∷ xs) → AllPairs R xs
-pairs_tail R x xs pairs i j d less lt = pairs (suc i) (suc j) d (omega (arith, less)) (omega (arith, lt))
 
 module _ (place : StochPlace) where
   abbrev IsOf : Owned → Bool

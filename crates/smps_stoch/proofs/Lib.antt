@@ -7,7 +7,7 @@ mod EntryLaws
 mod EntryLines
 mod FieldLaws
 mod Filling
-mod LastEntries
+pub mod LastEntries
 mod LineEntries
 mod Numbering
 mod OwnEntries

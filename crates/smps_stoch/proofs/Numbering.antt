@@ -4,13 +4,14 @@ use Rattle.std.specs.List.{list_any, position_or_len}
 use Rattle.std.proofs.lemmas.Bool.Decides.{nat_tests}
 use Rattle.std.proofs.lemmas.List.{get_or_at}
 use Rattle.std.proofs.lemmas.List.Folds.{list_any-append, list_any_at, position_or_len_push}
-use Rattle.stoch_lines.proofs.Positions.{none_passes, some_passes}
+use Rattle.base_words.proofs.Positions.{place_there}
+use Rattle.stoch_lines.proofs.Positions.{none_passes}
 
 -- the number of an item that is there stays as the list grows, and a new one has the next number
 module _ {X : Type 0} (same : X → X → Bool) (items : List X) (new : X) where
   pub old_number : (item : X) → list_any (same item) items ≡ true → position_or_len (same item) (items ++ new ∷ []) ≡ position_or_len (same item) items
   old_number item known =
-      let below = some_passes (same item) items known in
+      let below = place_there (same item) items known in
       let off : eqb (position_or_len (same item) items) (length items) ≡ false = grind (arith, nat_tests, below) in
       position_or_len_push (same item) items new
       ∙ ap (λ (b : Bool). cond b (length items + cond (same item new) 0 1) (position_or_len (same item) items)) off

@@ -16,7 +16,7 @@ use Rattle.stoch_lines.specs.declared.state.ScenarioHead.{ScenarioHead}
 use Rattle.smps_stoch.specs.declared.drafts.Draft.{Draft}
 use Rattle.smps_stoch.specs.declared.stoch.Realisation.{Realisation}
 use Rattle.smps_stoch.specs.SaidFacts.{chosen_element, AreOwned, Follows}
-use Rattle.smps_stoch.specs.StochData.{draft_at, drafts_at, drafts_of, element_at, entries_at, places_of, weighed_at}
+use Rattle.smps_stoch.specs.StochData.{draft_at, drafts_at, drafts_of, element_at, entries_at, probability_places, weighed_at}
 use Rattle.smps_stoch.specs.StochFacts.{AreApart, AreOfTwoPlaces, EntryFacts, IsEntry, ShareNoPlace}
 use Rattle.smps_stoch.proofs.Filling.{all_made}
 use Rattle.smps_stoch.proofs.LastEntries.{same_is, same_self}
@@ -121,8 +121,8 @@ module _ (core : Core) (realisations : List Chosen) (scenarios : List ScenarioHe
       let drafts = drafts_of realisations entries in
       let ones = drafts_at drafts k in
       let seconds = drafts_at drafts l in
-      All-map (λ (one : Realisation). All (λ (second : Realisation). ShareNoPlace one.entries second.entries) (map (weighed_at (places_of seconds)) seconds)) (weighed_at (places_of ones)) ones
-      (λ i d lt. All-map (λ (second : Realisation). ShareNoPlace (get_or ones i d).entries second.entries) (weighed_at (places_of seconds)) seconds
+      All-map (λ (one : Realisation). All (λ (second : Realisation). ShareNoPlace one.entries second.entries) (map (weighed_at (probability_places seconds)) seconds)) (weighed_at (probability_places ones)) ones
+      (λ i d lt. All-map (λ (second : Realisation). ShareNoPlace (get_or ones i d).entries second.entries) (weighed_at (probability_places seconds)) seconds
       (λ j e below.
       let one = get_or ones i d in
       let second = get_or seconds j e in

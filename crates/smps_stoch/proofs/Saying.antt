@@ -2,6 +2,7 @@
 use Rattle.std.proofs.Common.{◌≡◌, refl, ℕ, ◌<◌, ◌==◌, Bool, true, false, not, List, [], ◌∷◌, length, Option, Some, None, arith}
 use Rattle.std.specs.Prelude.{◌||◌, ◌&&◌, if◌then◌else◌, nat_le, nat_lt, position, unwrap_or}
 use Rattle.std.specs.Str.{bytes_eq}
+use Rattle.base_words.proofs.Booleans.{or_left}
 use Rattle.smps_words.specs.Tables.{first_true, ◌or◌}
 use Rattle.smps_words.specs.TextLines.{TextLine, field, field_count}
 use Rattle.smps_words.specs.declared.core_file.Core.{Core}
@@ -32,10 +33,6 @@ pub record BeginsWell (periods : Periods) (b : Before) (scenario : ScenarioHead)
   pub parent : IsEarlier scenario.parent (length b.names)
   pub few : length b.names < max_scenarios
 
-either_false : (a b : Bool) → (a || b) ≡ false → a ≡ false
-either_false false b e = refl
-either_false true b e = absurd (cc e)
-
 earlier : (names : List (List ℕ)) (name : List ℕ) (at : Option ℕ) → position (bytes_eq name) names ≡ at → IsEarlier at (length names)
 earlier names name None is = tt
 earlier names name (Some k) is = position_below (bytes_eq name) names k is
@@ -60,7 +57,7 @@ module _ (core : Core) (periods : Periods) (b : Before) (line : TextLine) where
       record {
         probable = probable (last_field line) ends.1;
         period = said_period (field_count line == 5) ends.0 (stage_of_place periods place) (stage_is_period periods place);
-        later = either_false (period == 1) (nat_lt (stage_of_place periods place) period) early.0;
+        later = or_left (period == 1) (nat_lt (stage_of_place periods place) period) early.0;
       }
 
   block_well : block_fault periods b line ≡ None → SaysWell periods b (block_saying periods b.blocks line)

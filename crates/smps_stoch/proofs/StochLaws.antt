@@ -5,6 +5,7 @@ use Rattle.std.specs.List.{All, range_with_len}
 use Rattle.std.proofs.lemmas.List.{length-map}
 use Rattle.std.proofs.lemmas.List.Elements.{All-filter, All-map, All-weaker}
 use Rattle.std.proofs.lemmas.List.FromFn.{length-map-range_with_len}
+use Rattle.base_words.proofs.Made.{made_at}
 use Rattle.smps_words.specs.declared.core_file.Core.{Core}
 use Rattle.smps_words.specs.declared.periods.Periods.{Periods}
 use Rattle.stoch_lines.specs.Before.{Before}
@@ -18,9 +19,9 @@ use Rattle.smps_stoch.specs.declared.stoch.Element.{Element}
 use Rattle.smps_stoch.specs.declared.stoch.Realisation.{Realisation}
 use Rattle.smps_stoch.specs.declared.stoch.Stoch.TheVariants.{Product, Scenarios}
 use Rattle.smps_stoch.specs.SaidFacts.{AreElements, AreHeads, AreOwned, IsHead, IsProbable, SaidFacts}
-use Rattle.smps_stoch.specs.StochData.{branch_at, branches_of, draft_at, drafts_at, drafts_of, element_at, elements_of, no_choice, no_scenario, places_of, scenario_places, stoch_of, weighed_at}
+use Rattle.smps_stoch.specs.StochData.{branch_at, branches_of, draft_at, drafts_at, drafts_of, element_at, elements_of, no_choice, no_scenario, probability_places, scenario_places, stoch_of, weighed_at}
 use Rattle.smps_stoch.specs.StochFacts.{no_branch, AreApart, BranchFacts, ElementFacts, EntryFacts, IsEarlier, IsPeriod, IsWeight, ProductFacts, StochFacts}
-use Rattle.smps_stoch.proofs.Filling.{all_made, made_at, passing_left}
+use Rattle.smps_stoch.proofs.Filling.{all_made, passing_left}
 use Rattle.smps_stoch.proofs.PlacesOnce.{drafts_well, elements_apart, entries_well}
 use Rattle.smps_stoch.proofs.Weighing.{weights_are}
 
@@ -47,9 +48,9 @@ module _ (core : Core) (periods : Periods) (b : Before) where
       let probable = All-filter (λ (d : Draft). d.element == k) (λ (d : Draft). IsProbable d.probability) drafts (drafts_probable b.realisations b.entries facts.probable) in
       record {
         period = facts.later k 0 lt;
-        some = subst (λ (m : ℕ). 0 < m) (sym (length-map own (weighed_at (places_of own)))) some;
-        weights = All-map (λ (r : Realisation). IsWeight r.weight) (weighed_at (places_of own)) own (weights_are (λ (d : Draft). d.probability) own probable);
-        entries = All-map (λ (r : Realisation). EntryFacts core r.entries) (weighed_at (places_of own)) own (All-filter (λ (d : Draft). d.element == k) (λ (d : Draft). EntryFacts core d.entries) drafts (drafts_well core b.realisations b.scenarios b.entries owned));
+        some = subst (λ (m : ℕ). 0 < m) (sym (length-map own (weighed_at (probability_places own)))) some;
+        weights = All-map (λ (r : Realisation). IsWeight r.weight) (weighed_at (probability_places own)) own (weights_are (λ (d : Draft). d.probability) own probable);
+        entries = All-map (λ (r : Realisation). EntryFacts core r.entries) (weighed_at (probability_places own)) own (All-filter (λ (d : Draft). d.element == k) (λ (d : Draft). EntryFacts core d.entries) drafts (drafts_well core b.realisations b.scenarios b.entries owned));
       }
 
   product_well : AreElements periods b.realisations b.periods b.sources → AreOwned core b.realisations b.scenarios b.entries → ProductFacts core periods (elements_of b.periods (drafts_of b.realisations b.entries))

@@ -46,7 +46,7 @@ weight_is d places probable enough most =
       small,
     )
 
-pub is_weight : (d : Decimal) (places : ℕ) → IsProbable d → d.places ≤ places → places ≤ max_places → IsWeight (scaled_to d places)
+is_weight : (d : Decimal) (places : ℕ) → IsProbable d → d.places ≤ places → places ≤ max_places → IsWeight (scaled_to d places)
 is_weight d places probable enough most =
     let w = weight_is d places probable enough most in
     let one : pos 1 ≤ℤ pos w.0 = omega (arith, ints, w.2) in
@@ -75,7 +75,7 @@ module _ {X : Type 0} (of : X → Decimal) where
       let P : X → Type 0 = λ x. (of x).places ≤ top in
       fold_most xs (max start (of x).places) top (max-le small (All-head P x xs all)) (All-tail P x xs all)
 
-  pub places_above : (xs : List X) (k : ℕ) (d : X) → k < length xs → (of (get_or xs k d)).places ≤ common_places (map of xs)
+  places_above : (xs : List X) (k : ℕ) (d : X) → k < length xs → (of (get_or xs k d)).places ≤ common_places (map of xs)
   places_above xs k d lt = fold_above xs 0 k d lt
 
   pub places_small : (xs : List X) → All (λ x. IsProbable (of x)) xs → common_places (map of xs) ≤ max_places

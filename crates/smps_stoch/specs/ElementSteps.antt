@@ -8,7 +8,7 @@ use Rattle.stoch_lines.specs.declared.state.ScenarioHead.{ScenarioHead}
 use Rattle.smps_stoch.specs.declared.stoch.Branch.{Branch}
 use Rattle.smps_stoch.specs.declared.stoch.Element.{Element}
 use Rattle.smps_stoch.specs.declared.drafts.Draft.{Draft}
-use Rattle.smps_stoch.specs.StochData.{branch_at, draft_at, drafts_at, places_of, weighed_at}
+use Rattle.smps_stoch.specs.StochData.{branch_at, draft_at, drafts_at, probability_places, weighed_at}
 
 -- the first n realisations with these entries
 abbrev pub drafts_with : List Chosen → List Owned → ℕ → List Draft
@@ -35,7 +35,7 @@ GrowsBranches before owned after =
 
 -- the greatest number of places of each element's probabilities
 abbrev pub places_by : List Draft → ℕ → List ℕ
-places_by drafts count = map (λ k. places_of (drafts_at drafts k)) (range_with_len 0 count)
+places_by drafts count = map (λ k. probability_places (drafts_at drafts k)) (range_with_len 0 count)
 
 -- one more realisation counts for its element
 abbrev pub GrowsPlaces : List ℕ → Draft → List ℕ → Type 0

@@ -13,5 +13,6 @@ pub use Rattle.smps_words.specs.TextLines
 pub use Rattle.stoch_lines.specs.Before
 pub use Rattle.stoch_lines.specs.Faults
 pub use Rattle.stoch_lines.specs.Places
+pub use Rattle.stoch_lines.specs.Sayings
 pub use Rattle.stoch_lines.specs.StochOutcome
 pub use Rattle.stoch_lines.specs.Turns

@@ -49,8 +49,8 @@ abbrev pub drafts_at : List Draft → ℕ → List Draft
 drafts_at drafts k = filter (λ draft. draft.element == k) drafts
 
 -- the greatest number of places of their probabilities
-abbrev pub places_of : List Draft → ℕ
-places_of drafts = common_places (map (λ draft. draft.probability) drafts)
+abbrev pub probability_places : List Draft → ℕ
+probability_places drafts = common_places (map (λ draft. draft.probability) drafts)
 
 -- a realisation's weight is its probability times a power of ten
 abbrev pub weighed_at : ℕ → Draft → Realisation
@@ -63,7 +63,10 @@ weighed_at places draft = record {
 abbrev pub element_at : List ℕ → List Draft → ℕ → Element
 element_at periods drafts k =
     let own = drafts_at drafts k in
-    record { period = slice_index periods k; realisations = map (weighed_at (places_of own)) own }
+    record {
+      period = slice_index periods k;
+      realisations = map (weighed_at (probability_places own)) own;
+    }
 
 -- the elements in order
 abbrev pub elements_of : List ℕ → List Draft → List Element

@@ -95,7 +95,8 @@ end_fault before line = first_true (
 abbrev pub header_fault : Before → TextLine → Option TimeKind
 header_fault before line =
     if bytes_eq (field 0 line) (codes "TIME") then first_true ((before.begun, Section) ∷ [])
-    else (if bytes_eq (field 0 line) (codes "PERIODS") then first_true ((before.opened, Section) ∷ (says_explicit line, Section) ∷ [])
+    else (if bytes_eq (field 0 line) (codes "PERIODS")
+    then first_true ((before.opened, Section) ∷ (says_explicit line, Section) ∷ [])
     else (if bytes_eq (field 0 line) (codes "ENDATA") then end_fault before line
     else Some Section))
 

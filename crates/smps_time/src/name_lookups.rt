@@ -9,7 +9,8 @@ ghost use Rattle.smps_time.specs.TimeAnswers.{names_of};
 ghost use Rattle.smps_time.specs.TimeFile.{column_named, place_named, says_explicit};
 
 use line_core::{Names, Span};
-use smps_words::{Core, FileLine, same};
+use smps_words::{Core, FileLine};
+use wide_num::same;
 
 fn is_among(bytes: &[u8], spans: &[Span], word: &[u8]) -> bool
     ensures { result ≡ list_any (λ span. bytes_eq (span_text bytes.now span) word.now) spans.now }

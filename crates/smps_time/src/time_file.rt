@@ -12,19 +12,9 @@ ghost use Rattle.smps_time.specs.TimeFile.{CoreNames, fault_after};
 use crate::time_fault::{TimeFault, TimeKind};
 use crate::time_reading::Reading;
 use line_core::{Line, LineFault, lines};
-use smps_words::{Core, FileLine, Periods};
+use smps_words::{Core, FileLine, Periods, last_number};
 use std::alloc::{AllocError, Global};
 use wide_num::List;
-
-// The number of the last line, 0 if there is none.
-fn last_number(bytes: &[u8], lines: &[Line]) -> u64
-    ensures { result ≡ last_number (text_lines bytes.now lines.now) }
-{
-    match lines.last() {
-        Some(line) => line.number,
-        None => 0,
-    }
-}
 
 // The fault of lines without an end.
 fn no_end(bytes: &[u8], lines: &[Line]) -> TimeFault

@@ -10,9 +10,9 @@ ghost use Rattle.smps_time.specs.TimeFile.{end_fault, header_fault, is_after_las
 use crate::name_lookups::{column_named, place_named, says_explicit};
 use crate::time_fault::{TimeFault, TimeKind};
 use line_core::Names;
-use smps_words::{Core, FileLine, same};
+use smps_words::{Core, FileLine};
 use std::alloc::Global;
-use wide_num::List;
+use wide_num::{List, same};
 
 const MIN_PERIODS: usize = 2;
 

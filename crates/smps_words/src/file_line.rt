@@ -1,14 +1,17 @@
 ghost use Rattle.std.specs.Prelude.{◌≡◌, length};
-ghost use Rattle.std.specs.Str.{bytes_eq};
-ghost use Rattle.smps_words.specs.TextLines.{field, is_header, text_of};
+ghost use Rattle.smps_words.specs.TextLines.{field, is_header, last_number, text_lines, text_of};
 
 use line_core::Line;
+use wide_num::same;
 
-/// Whether two texts are the same.
-pub fn same(a: &[u8], b: &[u8]) -> bool
-    ensures { result ≡ bytes_eq a.now b.now }
+/// The number of the last line, 0 if there is none.
+pub fn last_number(bytes: &[u8], lines: &[Line]) -> u64
+    ensures { result ≡ last_number (text_lines bytes.now lines.now) }
 {
-    a == b
+    match lines.last() {
+        Some(line) => line.number,
+        None => 0,
+    }
 }
 
 /// A line of a file with the bytes of the file.

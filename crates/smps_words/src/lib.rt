@@ -13,6 +13,6 @@ mod tests;
 
 pub use core_data::{CoreColumn, CoreEntry, CoreRow, RowKind};
 pub use core_file::Core;
-pub use file_line::{FileLine, same};
+pub use file_line::{FileLine, last_number};
 pub use laws::{stage_in_is_last, stage_is_one};
 pub use periods::Periods;

@@ -25,7 +25,7 @@ limits_part d (Cost column value ∷ cs) = limits_part (with_change d (Cost colu
 limits_part d (Cell row column value ∷ cs) = limits_part (with_change d (Cell row column value)) cs
 limits_part d (Limits row lower upper ∷ cs) = limits_part (with_change d (Limits row lower upper)) cs
 
-pub entries_part : (d : Data) (cs : List Change) → (fold with_change d cs).entries ≡ put_entries d.entries (cells_of cs)
+entries_part : (d : Data) (cs : List Change) → (fold with_change d cs).entries ≡ put_entries d.entries (cells_of cs)
 entries_part d [] = refl
 entries_part d (Cost column value ∷ cs) = entries_part (with_change d (Cost column value)) cs
 entries_part d (Cell row column value ∷ cs) = entries_part (with_change d (Cell row column value)) cs
@@ -62,10 +62,10 @@ row_there rows columns (Cost column value) h = refl
 row_there rows columns (Cell row column value) h = refl
 row_there rows columns (Limits row lower upper) h = both_left (nat_lt row rows) (are_limits lower upper) h
 
-pub cost_there : (rows : ℕ) (costs now : List ℤ) (cs : List Change) (c : Change) → now ≡ fold with_cost costs cs → is_change rows (length costs) c ≡ true → has_column (length now) c ≡ true
+cost_there : (rows : ℕ) (costs now : List ℤ) (cs : List Change) (c : Change) → now ≡ fold with_cost costs cs → is_change rows (length costs) c ≡ true → has_column (length now) c ≡ true
 cost_there rows costs now cs c is h = ap (λ n. has_column n c) (ap length is ∙ costs_long costs cs) ∙ column_there rows (length costs) c h
 
-pub limits_there : (columns : ℕ) (limits now : List BothLimits) (cs : List Change) (c : Change) → now ≡ fold with_limits limits cs → is_change (length limits) columns c ≡ true → has_row (length now) c ≡ true
+limits_there : (columns : ℕ) (limits now : List BothLimits) (cs : List Change) (c : Change) → now ≡ fold with_limits limits cs → is_change (length limits) columns c ≡ true → has_row (length now) c ≡ true
 limits_there columns limits now cs c is h = ap (λ n. has_row n c) (ap length is ∙ limits_long limits cs) ∙ row_there (length limits) columns c h
 
 cells_append : (bs cs : List Change) → cells_of (bs ++ cs) ≡ cells_of bs ++ cells_of cs

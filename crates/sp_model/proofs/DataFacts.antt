@@ -55,7 +55,7 @@ core_idle run j h = by_test (nat_lt j (length run.program.columns)) refl
         let l = not_less_from_test j (length run.program.columns) e in
         get_or-eq_default (core_data run.program).costs (pos 0) (omega (arith, length-map run.program.columns (λ (column : Column). column.cost)))
 
-pub core_keeps : (run : Run) → KeepsFacts run.program (core_data run.program)
+core_keeps : (run : Run) → KeepsFacts run.program (core_data run.program)
 core_keeps run = record {
   costs_long = length-map run.program.columns (λ (column : Column). column.cost);
   limits_long = length-map run.program.rows limits_of;
@@ -79,7 +79,7 @@ put_all P e fs h all = by_test (stands_at e fs (place_of e fs))
     by_test true = All-set P fs (place_of e fs) e h all
     by_test false = All-append P (take (place_of e fs) fs) (e ∷ drop (place_of e fs) fs) (All-take P (place_of e fs) fs all) (All-cons P e (drop (place_of e fs) fs) h (All-drop P (place_of e fs) fs all))
 
-pub change_keeps : (p : Program) (d : Data) (c : Change) → KeepsFacts p d → is_change (length p.rows) (length p.columns) c ≡ true → (change_reach p c ≡ 0 → change_value c ≡ pos 0) → KeepsFacts p (with_change d c)
+change_keeps : (p : Program) (d : Data) (c : Change) → KeepsFacts p d → is_change (length p.rows) (length p.columns) c ≡ true → (change_reach p c ≡ 0 → change_value c ≡ pos 0) → KeepsFacts p (with_change d c)
 change_keeps p d (Cost column value) k there idle = record {
   costs_long = length-set d.costs column value ∙ k.costs_long;
   limits_long = k.limits_long;
@@ -102,7 +102,7 @@ change_keeps p d (Limits row lower upper) k there idle = record {
   idle = k.idle;
 }
 
-pub changes_keep : (p : Program) (d : Data) (cs : List Change) → KeepsFacts p d → AllByRecursion (λ c. is_change (length p.rows) (length p.columns) c ≡ true) cs → AllByRecursion (λ c. change_reach p c ≡ 0 → change_value c ≡ pos 0) cs → KeepsFacts p (fold with_change d cs)
+changes_keep : (p : Program) (d : Data) (cs : List Change) → KeepsFacts p d → AllByRecursion (λ c. is_change (length p.rows) (length p.columns) c ≡ true) cs → AllByRecursion (λ c. change_reach p c ≡ 0 → change_value c ≡ pos 0) cs → KeepsFacts p (fold with_change d cs)
 changes_keep p d [] k there idle = k
 changes_keep p d (c ∷ cs) k there idle = changes_keep p (with_change d c) cs (change_keeps p d c k there.0 idle.0) there.1 idle.1
 
@@ -134,7 +134,7 @@ line_small run s j l h = by_box (nat_le 1 (box_reach run.program j)) refl
         omega arith
 
 -- the cost of a column times the factor fits
-cost_fits : (run : Run) (s j : ℕ) → s < scenarios run → j < length run.program.columns → FitsSigned w128 (factor_of run s *ℤ number_at (data_at run s).costs j)
+pub cost_fits : (run : Run) (s j : ℕ) → s < scenarios run → j < length run.program.columns → FitsSigned w128 (factor_of run s *ℤ number_at (data_at run s).costs j)
 cost_fits run s j l h =
     let costs = (data_at run s).costs in
     fits_from_abs (factor_of run s *ℤ number_at costs j) (omega (arith, ap unsigned_abs (times_at (factor_of run s) costs j), line_small run s j l h))

@@ -32,7 +32,7 @@ use Rattle.sp_model.proofs.SumSome.{sum_some-le, sum_some-none}
 use Rattle.base_words.proofs.NumberTests.{less_from_test}
 
 -- the least value of a problem is at most the value of a feasible point
-pub least_below : (problem : Problem) → Filled problem.columns → (v : ℤ) (x : List ℤ) → least_of problem ≡ Some v → Feasible problem x → v ≤ℤ value_of problem x
+least_below : (problem : Problem) → Filled problem.columns → (v : ℤ) (x : List ℤ) → least_of problem ≡ Some v → Feasible problem x → v ≤ℤ value_of problem x
 least_below problem filled v x e feasible = by_best (best_of problem) (best_is problem (best_of problem) filled refl) e
   where
     by_best : (o : Option Best) → IsBest problem o → option_map (λ (best : Best). best.value) o ≡ Some v → v ≤ℤ value_of problem x

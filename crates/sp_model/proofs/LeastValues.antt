@@ -1,10 +1,9 @@
 -- What the least value of a problem says of its points.
 
-use Rattle.std.proofs.Common.{arith, refl, sym, ap, ◌∙◌, ◌≡◌, ◌≤◌, List, length, ℤ, unsigned_abs, Option, Some, None}
+use Rattle.std.proofs.Common.{arith, refl, sym, ap, ◌∙◌, ◌≡◌, ◌≤◌, List, ℤ, unsigned_abs, Option, Some, None}
 use Rattle.std.specs.Option.{option_map}
 use Rattle.boxed_problem.specs.Data.{Problem}
 use Rattle.boxed_problem.specs.BoxedFacts.{value_size}
-use Rattle.boxed_problem.specs.Objective.{value_of}
 use Rattle.boxed_problem.specs.Optimum.{Feasible, IsBest, best_of}
 use Rattle.boxed_problem.specs.Sides.{Filled}
 use Rattle.boxed_problem.specs.declared.parts.Best.{Best}

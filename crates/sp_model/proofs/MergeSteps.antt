@@ -23,7 +23,7 @@ spread_behind : (d e : Entry) (ds us : List Entry) (k : ℕ) (t : Bool) → spre
 spread_behind d e ds us k true = let next : suc k + 1 ≡ suc (k + 1) = omega arith in ap (λ n. take (suc k) (e ∷ us) ++ d ∷ put_entries (drop n (e ∷ us)) ds) next
 spread_behind d e ds us k false = refl
 
-pub next_put : (d : Entry) (us ds : List Entry) → IsChain (d ∷ ds) → put_entries us (d ∷ ds) ≡ take (place_of d us) us ++ d ∷ put_entries (drop (passed_by d us) us) ds
+next_put : (d : Entry) (us ds : List Entry) → IsChain (d ∷ ds) → put_entries us (d ∷ ds) ≡ take (place_of d us) us ++ d ∷ put_entries (drop (passed_by d us) us) ds
 next_put d [] ds h = head_stays d [] ds (all_after d ds h)
 next_put d (e ∷ us) ds h = by_first (is_before e d) refl (is_at e d) refl (next_put d us ds h)
   where
@@ -71,7 +71,7 @@ merge_more under over all next at k d rises lt is so step =
     ∙ so
 
 -- the end of the merge
-pub merge_end : (under over all next : List Entry) (at k : ℕ) → length over ≤ k → all ++ put_entries (drop at under) (drop k over) ≡ put_entries under over → next ≡ all ++ drop at under → next ≡ put_entries under over
+merge_end : (under over all next : List Entry) (at k : ℕ) → length over ≤ k → all ++ put_entries (drop at under) (drop k over) ≡ put_entries under over → next ≡ all ++ drop at under → next ≡ put_entries under over
 merge_end under over all next at k le so step = step ∙ ap (λ l. all ++ put_entries (drop at under) l) (sym (drop_all k over le)) ∙ so
 
 -- the two halves of a list put in order

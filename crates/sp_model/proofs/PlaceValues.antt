@@ -6,6 +6,7 @@ use Rattle.std.specs.List.{All, AllByRecursion, AllPairs, fold}
 use Rattle.std.proofs.lemmas.List.{length-map}
 use Rattle.std.proofs.lemmas.List.Elements.{recursion_from_All}
 use Rattle.base_words.proofs.Comparisons.{both, both_left, left_fails, right_fails}
+use Rattle.base_words.proofs.NumberTests.{test_from_same}
 use Rattle.boxed_problem.specs.BoxedFacts.{no_limits}
 use Rattle.boxed_problem.specs.declared.parts.Entry.{Entry}
 use Rattle.sp_model.specs.Changes.{Data, core_data, data_of, is_at, is_before, limits_of, put_entry, with_change}
@@ -47,11 +48,8 @@ before_other e f h = by_column (f.column == e.column) refl h
     by_column true c g = grind arith
     by_column false c g = refl
 
-self_equal : (n : ℕ) → (n == n) ≡ true
-self_equal n = grind arith
-
 own_cell : (e : Entry) → is_cell e.row e.column e ≡ true
-own_cell e = both (e.column == e.column) (e.row == e.row) (self_equal e.column) (self_equal e.row)
+own_cell e = both (e.column == e.column) (e.row == e.row) (test_from_same e.column e.column refl) (test_from_same e.row e.row refl)
 
 -- an entry of the place of another is of a cell exactly where the other is
 at_cell : (i j : ℕ) (e f : Entry) → is_at f e ≡ true → is_cell i j e ≡ false → is_cell i j f ≡ false
@@ -63,7 +61,7 @@ at_cell i j e f at h = by_column (f.column == e.column) refl (f.row == e.row) re
     by_column false c u r g = absurd (let x = g in cc)
 
 -- an entry that was put is found at its place
-pub put_found : (e : Entry) (fs : List Entry) → find (is_cell e.row e.column) (put_entry e fs) ≡ Some e
+put_found : (e : Entry) (fs : List Entry) → find (is_cell e.row e.column) (put_entry e fs) ≡ Some e
 put_found e [] = find_head (is_cell e.row e.column) e [] (own_cell e)
 put_found e (f ∷ fs) = by_before (is_before f e) refl (is_at f e) refl (put_found e fs)
   where

@@ -21,10 +21,6 @@ item_le (n ∷ ns) a (suc i) h = item_le ns (max a n) i (omega arith)
 pub greatest_le : {X : Type 0} (f : X → ℕ) (xs : List X) (i : ℕ) (d : X) → i < length xs → f (get_or xs i d) ≤ greatest (map f xs)
 greatest_le f xs i d h = omega (arith, get_or-map f xs i d 0 h, item_le (map f xs) 0 i (omega (arith, length-map xs f)))
 
-pub size_below-mono : (n : ℕ) (f g : ℕ → ℕ) → ((k : ℕ) → k < n → f k ≤ g k) → size_below n f ≤ size_below n g
-size_below-mono zero f g h = omega arith
-size_below-mono (suc n) f g h = omega (arith, h n (omega arith), size_below-mono n f g (λ k l. h k (omega arith)))
-
 pub size_below-times : (n c : ℕ) (f : ℕ → ℕ) → size_below n (λ k. c * f k) ≡ c * size_below n f
 size_below-times zero c f = omega arith
 size_below-times (suc n) c f = ap (λ m. m + c * f n) (size_below-times n c f) ∙ sym (mul-add c (size_below n f) (f n))

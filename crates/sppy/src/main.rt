@@ -9,7 +9,7 @@ ghost use Rattle.std.specs.Process.{exit_status};
 ghost use Rattle.io_edge.specs.Faults.{Counts, CountsTo, edge_fault};
 ghost use Rattle.io_edge.specs.Sinks.{PutLeaves};
 ghost use Rattle.run_words.specs.Words.{command_of};
-ghost use Rattle.sppy_cli.specs.Complete.{Completes, Refuses};
+ghost use Rattle.sppy_cli.specs.Complete.{Completes, RefusesAsked};
 ghost use Rattle.sppy_cli.specs.Desk.{Answers};
 ghost use Rattle.sppy_cli.specs.InTurn.{LoadsNames};
 ghost use Rattle.sppy_cli.specs.Statuses.{code_of, read_fault_of, status_line, write_fault_of};
@@ -77,7 +77,7 @@ fn run_command<S: Shelf, K: Sink>(
     ensures answers { IfOk given (λ words. Answers (S.files shelf.old)
         (command_of (map string_bytes words.items)) (K.written out.old) (K.written out.new)
         result) }
-    ensures refuses { IfOk given (λ words. Refuses (S.files shelf.old)
+    ensures refuses { IfOk given (λ words. RefusesAsked (S.files shelf.old)
         (command_of (map string_bytes words.items)) result) }
     ensures complete { IfOk given (λ words. Completes (S.files shelf.old)
         (command_of (map string_bytes words.items)) (S.count shelf.old) (S.count shelf.new)

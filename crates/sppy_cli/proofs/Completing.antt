@@ -8,7 +8,7 @@ use Rattle.run_words.specs.Words.{Request}
 use Rattle.run_words.specs.declared.command.Action.{Action}
 use Rattle.smps_core.specs.CoreData.{IsCoreOf}
 use Rattle.sppy_cli.specs.Causes.{CoreFails, IsCause, IsFaulty, IsInstanceOf, JoinFails, StochFails, TimeFails, joined_of, status_of_join}
-use Rattle.sppy_cli.specs.Complete.{Completes, CompletesIn, EndsBy, EndsByRun, IsCalm, Refuses, RefusesIn}
+use Rattle.sppy_cli.specs.Complete.{Completes, CompletesIn, EndsBy, EndsByRun, IsCalm, RefusesAsked, RefusesIn}
 use Rattle.sppy_cli.specs.Desk.{Answers, AnswersRequest}
 use Rattle.sppy_cli.specs.Files.{ArePeriodsIn, stoch_file, time_file}
 use Rattle.sppy_cli.specs.Statuses.{read_fault_of, write_fault_of}
@@ -135,7 +135,7 @@ completes None asked old new r u w v s a reads writes = tt
 completes (Some table) None old new r u w v s a reads writes = tt
 completes (Some table) (Some request) old new r u w v s a reads writes = complete_by table request old new r u w v s a reads writes
 
-pub refuses : (files : Option FileTable) (asked : Option Request) (old new : Option (List ℕ)) (s : Status) → Answers files asked old new s → Refuses files asked s
+pub refuses : (files : Option FileTable) (asked : Option Request) (old new : Option (List ℕ)) (s : Status) → Answers files asked old new s → RefusesAsked files asked s
 refuses None asked old new s a = tt
 refuses (Some table) None old new s a = tt
 refuses (Some table) (Some request) old new s a = refuses_by table request old new s a

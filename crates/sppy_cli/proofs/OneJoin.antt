@@ -1,6 +1,7 @@
 -- The join makes a run or refuses, and refuses for one reason.
-use Rattle.std.proofs.Common.{arith, ◌≡◌, ◌∙◌, ℕ, ◌≤◌, Bool, true, false, List, Some, None, refl, sym, ap}
+use Rattle.std.proofs.Common.{arith, ◌≡◌, ◌∙◌, ℕ, ◌≤◌, List, Some, None, refl, sym, ap}
 use Rattle.std.specs.Prelude.{◌≢◌}
+use Rattle.base_words.proofs.Booleans.{not_both}
 use Rattle.join_words.specs.Joining.{IsJoined, IsRefused}
 use Rattle.join_words.specs.Parts.{Firsts, IsFirstEarly, is_early}
 use Rattle.join_words.specs.Framing.{Source}
@@ -11,13 +12,10 @@ use Rattle.smps_words.specs.declared.core_data.CoreEntry.{CoreEntry}
 use Rattle.sp_model.specs.declared.program.Options.{Options}
 use Rattle.sp_model.specs.declared.run.Run.{Run}
 
-both_bools : (b : Bool) → b ≡ true → b ≡ false → ⊥
-both_bools b e f = let g = sym e ∙ f in cc
-
 -- an early entry is there, or none
 never_timely : (firsts : Firsts) (entries : List CoreEntry) (line : ℕ) → IsFirstEarly firsts entries None → IsFirstEarly firsts entries (Some line) → ⊥
 never_timely firsts entries line none ((k, e, there, is, (early, at)), least) =
-    both_bools (is_early firsts e) early (ap (is_early firsts) (sym is) ∙ none k e there)
+    not_both (is_early firsts e) early (ap (is_early firsts) (sym is) ∙ none k e there)
 
 -- and one line is the least
 least_lines : (firsts : Firsts) (entries : List CoreEntry) (line other : ℕ) → IsFirstEarly firsts entries (Some line) → IsFirstEarly firsts entries (Some other) → other ≤ line
@@ -32,9 +30,9 @@ one_line firsts entries line other is also = omega (arith, least_lines firsts en
 -- a run or a refusal
 pub run_or_refusal : (source : Source) (options : Options) (run : Run) (fault : JoinFault) → IsJoined source options run → IsRefused source options fault → fault ≢ Memory → ⊥
 run_or_refusal source options run (Anticipates line) joined refused other = never_timely source.firsts source.parts.entries line joined.timely refused
-run_or_refusal source options run TooManyScenarios joined (timely, crowded) other = both_bools (is_crowded source) crowded joined.few_scenarios
-run_or_refusal source options run TooManyCells joined (timely, few, vast) other = both_bools (is_too_large source) vast joined.few_cells
-run_or_refusal source options run (Wide reach) joined (timely, few, less, wide, told) other = both_bools (is_wide source options) wide joined.narrow
+run_or_refusal source options run TooManyScenarios joined (timely, crowded) other = not_both (is_crowded source) crowded joined.few_scenarios
+run_or_refusal source options run TooManyCells joined (timely, few, vast) other = not_both (is_too_large source) vast joined.few_cells
+run_or_refusal source options run (Wide reach) joined (timely, few, less, wide, told) other = not_both (is_wide source options) wide joined.narrow
 run_or_refusal source options run Memory joined refused other = other refl
 
 -- one refusal
@@ -45,15 +43,15 @@ one_refusal source options (Anticipates line) TooManyCells a (timely, few, vast)
 one_refusal source options (Anticipates line) (Wide reach) a (timely, few, slight, wide, told) m n = absurd (never_timely source.firsts source.parts.entries line timely a)
 one_refusal source options TooManyScenarios (Anticipates line) (timely, crowded) a m n = absurd (never_timely source.firsts source.parts.entries line timely a)
 one_refusal source options TooManyScenarios TooManyScenarios a b m n = refl
-one_refusal source options TooManyScenarios TooManyCells (timely, crowded) (also, few, vast) m n = absurd (both_bools (is_crowded source) crowded few)
-one_refusal source options TooManyScenarios (Wide reach) (timely, crowded) (also, few, slight, wide, told) m n = absurd (both_bools (is_crowded source) crowded few)
+one_refusal source options TooManyScenarios TooManyCells (timely, crowded) (also, few, vast) m n = absurd (not_both (is_crowded source) crowded few)
+one_refusal source options TooManyScenarios (Wide reach) (timely, crowded) (also, few, slight, wide, told) m n = absurd (not_both (is_crowded source) crowded few)
 one_refusal source options TooManyCells (Anticipates line) (timely, few, vast) a m n = absurd (never_timely source.firsts source.parts.entries line timely a)
-one_refusal source options TooManyCells TooManyScenarios (timely, few, vast) (also, crowded) m n = absurd (both_bools (is_crowded source) crowded few)
+one_refusal source options TooManyCells TooManyScenarios (timely, few, vast) (also, crowded) m n = absurd (not_both (is_crowded source) crowded few)
 one_refusal source options TooManyCells TooManyCells a b m n = refl
-one_refusal source options TooManyCells (Wide reach) (timely, few, vast) (also, less, slight, wide, told) m n = absurd (both_bools (is_too_large source) vast slight)
+one_refusal source options TooManyCells (Wide reach) (timely, few, vast) (also, less, slight, wide, told) m n = absurd (not_both (is_too_large source) vast slight)
 one_refusal source options (Wide reach) (Anticipates line) (timely, few, slight, wide, told) a m n = absurd (never_timely source.firsts source.parts.entries line timely a)
-one_refusal source options (Wide reach) TooManyScenarios (timely, few, slight, wide, told) (also, crowded) m n = absurd (both_bools (is_crowded source) crowded few)
-one_refusal source options (Wide reach) TooManyCells (timely, few, slight, wide, told) (also, less, vast) m n = absurd (both_bools (is_too_large source) vast slight)
+one_refusal source options (Wide reach) TooManyScenarios (timely, few, slight, wide, told) (also, crowded) m n = absurd (not_both (is_crowded source) crowded few)
+one_refusal source options (Wide reach) TooManyCells (timely, few, slight, wide, told) (also, less, vast) m n = absurd (not_both (is_too_large source) vast slight)
 one_refusal source options (Wide reach) (Wide other) (timely, few, slight, wide, told) (a, b, c, d, also) m n = ap Wide (told ∙ sym also)
 one_refusal source options Memory g a b m n = absurd (m refl)
 one_refusal source options (Anticipates line) Memory a b m n = absurd (n refl)

@@ -8,7 +8,7 @@ use Rattle.smps_stoch.specs.declared.stoch.Stoch.{Stoch}
 use Rattle.smps_words.specs.declared.core_file.Core.{Core}
 use Rattle.smps_words.specs.declared.periods.Periods.{Periods}
 use Rattle.sppy_cli.specs.Causes.{IsFaulty, StochFails, TimeFails, input_at}
-use Rattle.sppy_cli.specs.Files.{ArePeriodsIn, AreRead, IsCoreIn, IsSaid, IsStochIn, ShowsPeriods, ShowsStoch, core_file, stoch_file, time_file}
+use Rattle.sppy_cli.specs.Files.{ArePeriodsIn, AreRead, IsCoreIn, IsSaidIn, IsStochIn, ShowsPeriods, ShowsStoch, core_file, stoch_file, time_file}
 use Rattle.sppy_cli.specs.declared.instance.Triple.{Triple}
 use Rattle.sppy_cli.specs.declared.status.InputFile.{InputFile}
 use Rattle.sppy_cli.specs.declared.status.InputFile.TheVariants as file
@@ -17,7 +17,7 @@ use Rattle.sppy_cli.specs.declared.status.Status.{Status}
 use Rattle.sppy_cli.proofs.OneCore.{core_is_one, periods_are_one}
 
 -- a file says data or a fault, and not both
-pub clash : {V X : Type 0} (shows : V → X → Type 0) (said : Option (Result V (ℕ × InputKind))) (x : X) (fault : ℕ × InputKind) → IsSaid shows said x → said ≡ Some (Err fault) → ⊥
+pub clash : {V X : Type 0} (shows : V → X → Type 0) (said : Option (Result V (ℕ × InputKind))) (x : X) (fault : ℕ × InputKind) → IsSaidIn shows said x → said ≡ Some (Err fault) → ⊥
 clash shows said x fault (v, e, shown) f = let g = sym e ∙ f in cc
 
 -- one fault

@@ -9,7 +9,7 @@ use Rattle.io_edge.specs.Sinks.{AppendsFront, appended}
 use Rattle.run_words.specs.declared.command.Action.{Action}
 use Rattle.run_words.specs.declared.command.Action.TheVariants.{Wait, Show}
 use Rattle.sp_model.specs.Problems.{wait_and_see_of}
-use Rattle.sppy_cli.specs.Texts.{CutsBound, CutsText, IsWaitRest, PutsBound, PutsText, Writes, WritesBoundFront, WritesFront, WritesRest, heading_text, places_of, show_rest}
+use Rattle.sppy_cli.specs.Texts.{CutsBound, CutsText, IsWaitRest, PutsBound, PutsText, Writes, WritesBoundFront, WritesFront, WritesRest, heading_text, row_places_of, show_rest}
 use Rattle.sppy_cli.specs.declared.instance.Instance.{Instance}
 use Rattle.sppy_cli.specs.declared.status.Status.{Status}
 use Rattle.sppy_cli.specs.declared.status.Status.TheVariants as status
@@ -85,10 +85,10 @@ part_cut f m n old mid new s h begun cut =
     subst (λ text. CutsText text old new s) (ap (λ part. part ++ parts_from f (m + 1) n) (sym (parts_more f m)) ∙ sym (parts_split f (m + 1) n h)) all
 
 -- the text of `show` in its three parts
-pub show_is : (i : Instance) → show_rest i ≡ concat (column_lines_of i.triple.core i.run) ++ (concat (row_lines_of i.triple.core i.run (places_of i)) ++ concat (all_scenario_lines i.triple.core i.run))
+pub show_is : (i : Instance) → show_rest i ≡ concat (column_lines_of i.triple.core i.run) ++ (concat (row_lines_of i.triple.core i.run (row_places_of i)) ++ concat (all_scenario_lines i.triple.core i.run))
 show_is i =
     let columns = column_lines_of i.triple.core i.run in
-    let rows = row_lines_of i.triple.core i.run (places_of i) in
+    let rows = row_lines_of i.triple.core i.run (row_places_of i) in
     let scenarios = all_scenario_lines i.triple.core i.run in
     concat-append (columns ++ rows) scenarios
     ∙ ap (λ text. text ++ concat scenarios) (concat-append columns rows)

@@ -35,7 +35,7 @@ names_then : (old mid new : Names) (first second : List (List ℕ)) → mid ≡ 
 names_then old mid new first second e f = f ∙ (ap (λ known. with_names known second) e ∙ with_names-more old first second)
 
 -- what a load did where the reading of its bytes was refused
-pub refused_after : (name : List ℕ) (old new : Names) (f : FileFault) → new ≡ with_names old (name ∷ []) → LoadsNameAtFault name old new f
+refused_after : (name : List ℕ) (old new : Names) (f : FileFault) → new ≡ with_names old (name ∷ []) → LoadsNameAtFault name old new f
 refused_after name old new (load.Wrong line kind) e = e
 refused_after name old new (load.Failed faults) e = e
 refused_after name old new load.Memory e = inr e
@@ -111,7 +111,7 @@ pub turn_is : (files : Option FileTable) (request : Request) (old new : Names) (
 turn_is files request old new s t is turn = subst (LoadsInTurn files request old new) (sym is) turn
 
 -- why there is no run, where a file fails
-pub no_core : (files : Option FileTable) (request : Request) (f : FileFault) → Loads core_file IsCoreOf files request.core (Err f) → HasNoRun files request (status_of_file file.Core f)
+no_core : (files : Option FileTable) (request : Request) (f : FileFault) → Loads core_file IsCoreOf files request.core (Err f) → HasNoRun files request (status_of_file file.Core f)
 no_core None request (load.Wrong line kind) said = tt
 no_core None request (load.Failed faults) said = tt
 no_core None request load.Memory said = tt

@@ -59,6 +59,6 @@ RefusesIn table request status =
     (cause : Status) → IsCause table request cause → EndsByCause cause status
 
 -- the same where the files are told and the words are well formed
-abbrev pub Refuses : Option FileTable → Option Request → Status → Type 0
-Refuses files asked status =
+abbrev pub RefusesAsked : Option FileTable → Option Request → Status → Type 0
+RefusesAsked files asked status =
     IfSome files (λ table. IfSome asked (λ request. RefusesIn table request status))

@@ -26,43 +26,43 @@ told_as kind_of (Err (line, k)) = Err (line, kind_of k)
 
 -- what a file says by the meaning of its bytes: nothing where it isn't there, and a fault of the
 -- whole where it is too long
-abbrev pub said_by : {X K : Type 0} → (K → InputKind) → (List ℕ → Result X (ℕ × K))
+abbrev pub said_in_file : {X K : Type 0} → (K → InputKind) → (List ℕ → Result X (ℕ × K))
     → Option (List ℕ) → Option (Result X (ℕ × InputKind))
-said_by kind_of means None = None
-said_by kind_of means (Some bytes) = Some
+said_in_file kind_of means None = None
+said_in_file kind_of means (Some bytes) = Some
     (if nat_le (length bytes) max_file_bytes then told_as kind_of (means bytes)
     else Err (0, kind.TooLong))
 
 -- what the core file says, the time file beside a core, and the stoch file beside both
 abbrev pub core_file : Option (List ℕ) → Option (Result Before (ℕ × InputKind))
-core_file file = said_by kind.Core meaning file
+core_file file = said_in_file kind.Core meaning file
 
 abbrev pub time_file : Core → Option (List ℕ) → Option (Result PeriodsData (ℕ × InputKind))
-time_file core file = said_by kind.Time (time_meaning (names_of core)) file
+time_file core file = said_in_file kind.Time (time_meaning (names_of core)) file
 
 abbrev pub stoch_file : Core → Periods → Option (List ℕ) → Option (Result Stoch (ℕ × InputKind))
-stoch_file core periods file = said_by kind.Stoch (stoch_meaning core periods) file
+stoch_file core periods file = said_in_file kind.Stoch (stoch_meaning core periods) file
 
 -- a file says data that these show
-abbrev pub IsSaid : {V X : Type 0} → (V → X → Type 0) → Option (Result V (ℕ × InputKind)) → X
+abbrev pub IsSaidIn : {V X : Type 0} → (V → X → Type 0) → Option (Result V (ℕ × InputKind)) → X
     → Type 0
-IsSaid {V} shows said x = (v : V) × (said ≡ Some (Ok v)) × shows v x
+IsSaidIn {V} shows said x = (v : V) × (said ≡ Some (Ok v)) × shows v x
 
 -- the core of a core file, the periods of a time file, and the data of a stoch file
 abbrev pub IsCoreIn : Option (List ℕ) → Core → Type 0
-IsCoreIn file core = IsSaid IsCoreOf (core_file file) core
+IsCoreIn file core = IsSaidIn IsCoreOf (core_file file) core
 
 abbrev pub ShowsPeriods : PeriodsData → Periods → Type 0
 ShowsPeriods v periods = v ≡ data_of periods
 
 abbrev pub ArePeriodsIn : Core → Option (List ℕ) → Periods → Type 0
-ArePeriodsIn core file periods = IsSaid ShowsPeriods (time_file core file) periods
+ArePeriodsIn core file periods = IsSaidIn ShowsPeriods (time_file core file) periods
 
 abbrev pub ShowsStoch : Stoch → Stoch → Type 0
 ShowsStoch v stoch = v ≡ stoch
 
 abbrev pub IsStochIn : Core → Periods → Option (List ℕ) → Stoch → Type 0
-IsStochIn core periods file stoch = IsSaid ShowsStoch (stoch_file core periods file) stoch
+IsStochIn core periods file stoch = IsSaidIn ShowsStoch (stoch_file core periods file) stoch
 
 -- the three files of a request say these data, each beside those before it
 pub record AreRead (table : FileTable) (request : Request) (triple : Triple) : Type 0 where

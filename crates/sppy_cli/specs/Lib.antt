@@ -26,4 +26,5 @@ pub use Rattle.text_lines.specs.BoundLines
 pub use Rattle.text_lines.specs.Headings
 pub use Rattle.text_lines.specs.Lines
 pub use Rattle.text_lines.specs.ShowLines
+pub use Rattle.wait_and_see.specs.Spending
 pub use Rattle.wait_and_see.specs.WaitAnswers

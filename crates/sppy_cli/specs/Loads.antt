@@ -3,7 +3,7 @@ use Rattle.std.specs.Prelude.{◌≡◌, ◌⊎◌, ℕ, ◌<◌, ◌≤◌, len
 use Rattle.std.specs.FinMap.{get}
 use Rattle.io_edge.specs.Shelves.{FileTable}
 use Rattle.sppy_cli.specs.Causes.{input_at}
-use Rattle.sppy_cli.specs.Files.{IsSaid, max_file_bytes}
+use Rattle.sppy_cli.specs.Files.{IsSaidIn, max_file_bytes}
 use Rattle.sppy_cli.specs.InTurn.{with_names}
 use Rattle.sppy_cli.specs.declared.loads.FileFault.{FileFault}
 use Rattle.sppy_cli.specs.declared.loads.FileFault.TheVariants.{Wrong, Failed, Memory}
@@ -38,7 +38,7 @@ LoadsBytes bytes_of (Some table) name (Err Memory) = Unit {0}
 abbrev pub Loads : {V X : Type 0} → (Option (List ℕ) → Option (Result V (ℕ × InputKind)))
     → (V → X → Type 0) → Option FileTable → List ℕ → Result X FileFault → Type 0
 Loads says shows None name result = Unit {0}
-Loads says shows (Some table) name (Ok x) = IsSaid shows (says (get table name)) x
+Loads says shows (Some table) name (Ok x) = IsSaidIn shows (says (get table name)) x
 Loads says shows (Some table) name (Err (Wrong line kind)) =
     says (get table name) ≡ Some (Err (line, kind))
 Loads says shows (Some table) name (Err (Failed faults)) = Unit {0}

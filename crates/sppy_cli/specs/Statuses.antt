@@ -21,15 +21,18 @@ code_of status.Memory = 9
 -- a fault of a file, its line and its kind
 abbrev pub fault_text : InputFault → List ℕ
 fault_text fault =
-    codes "input " ++ file_word fault.file ++ codes " line " ++ decimal fault.line ++ codes " " ++ kind_word fault.kind
+    codes "input " ++ file_word fault.file ++ codes " line " ++ decimal fault.line ++ codes " "
+    ++ kind_word fault.kind
 
 -- the line on standard error; nothing where all was done. Scenarios are counted from 1
 abbrev pub status_line : Status → List ℕ
 status_line status.Done = []
 status_line status.Words = line_of (codes "sppy: words")
 status_line (status.Input fault) = line_of (codes "sppy: " ++ fault_text fault)
-status_line (status.Infeasible scenario) = line_of (codes "sppy: infeasible " ++ decimal (scenario + 1))
-status_line (status.Spent scenario opened) = line_of (codes "sppy: spent " ++ decimal (scenario + 1) ++ codes " opened " ++ decimal opened)
+status_line (status.Infeasible scenario) =
+    line_of (codes "sppy: infeasible " ++ decimal (scenario + 1))
+status_line (status.Spent scenario opened) = line_of
+    (codes "sppy: spent " ++ decimal (scenario + 1) ++ codes " opened " ++ decimal opened)
 status_line (status.Wide reach) = line_of (codes "sppy: wide " ++ decimal reach)
 status_line (status.ReadFault faults) = line_of (codes "sppy: read fault " ++ decimal faults)
 status_line (status.WriteFault faults) = line_of (codes "sppy: write fault " ++ decimal faults)

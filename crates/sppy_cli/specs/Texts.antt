@@ -20,8 +20,8 @@ abbrev pub heading_text : Instance → List ℕ
 heading_text i = concat (heading_of i.triple.core i.run)
 
 -- the places of the power of ten by which each row was multiplied
-abbrev pub places_of : Instance → List ℕ
-places_of i =
+abbrev pub row_places_of : Instance → List ℕ
+row_places_of i =
     (frame_of
     (joined i.triple.core i.triple.periods i.triple.stoch i.run.options.missing)).row_places
 
@@ -35,7 +35,7 @@ IsWaitRest i rest =
 
 -- the text of `show` behind the heading: columns, rows, and scenarios with the limits of their rows
 abbrev pub show_rest : Instance → List ℕ
-show_rest i = concat (show_lines_of i.triple.core i.run (places_of i))
+show_rest i = concat (show_lines_of i.triple.core i.run (row_places_of i))
 
 -- the text of a command behind the heading
 abbrev pub IsRest : Action → Instance → List ℕ → Type 0

@@ -2,7 +2,7 @@ ghost use Rattle.std.specs.Prelude.{◌≡◌, ◌↔◌, None, map, string_byte
 ghost use Rattle.io_edge.specs.Faults.{CountsTo};
 ghost use Rattle.run_words.specs.Words.{command_of};
 ghost use Rattle.sppy_cli.specs.Causes.{KeepsFacts};
-ghost use Rattle.sppy_cli.specs.Complete.{Completes, Refuses};
+ghost use Rattle.sppy_cli.specs.Complete.{Completes, RefusesAsked};
 ghost use Rattle.sppy_cli.specs.Desk.{Answers};
 ghost use Rattle.sppy_cli.specs.InTurn.{LoadsNames};
 ghost use Rattle.sppy_cli.specs.Statuses.{read_fault_of, write_fault_of};
@@ -64,7 +64,8 @@ pub fn desk<S: Shelf, K: Sink>(
         (K.written out.old) (K.written out.new) result }
 
     // a cause why the files make no run is the one that is answered
-    ensures refuses { Refuses (S.files shelf.old) (command_of (map string_bytes words.now)) result }
+    ensures refuses { RefusesAsked (S.files shelf.old) (command_of (map string_bytes words.now))
+        result }
 
     // where the files make a run and no fault is counted, the command ends by its run
     ensures complete { Completes (S.files shelf.old) (command_of (map string_bytes words.now))

@@ -5,7 +5,7 @@ ghost use Rattle.run_words.specs.declared.command.Action.TheVariants.{Show};
 ghost use Rattle.sp_model.specs.Problems.{scenarios};
 ghost use Rattle.sppy_cli.specs.Causes.{KeepsFacts};
 ghost use Rattle.sppy_cli.specs.Statuses.{read_fault_of, reported, write_fault_of};
-ghost use Rattle.sppy_cli.specs.Texts.{PutsText, WritesRest, places_of, show_rest};
+ghost use Rattle.sppy_cli.specs.Texts.{PutsText, WritesRest, row_places_of, show_rest};
 ghost use Rattle.text_lines.specs.ShowLines.{all_scenario_lines, column_lines_of, row_lines_of, scenario_lines_of};
 
 use crate::instance::Instance;
@@ -32,7 +32,7 @@ fn put_columns<K: Sink>(alloc: Global, out: &mut K, instance: &Instance) -> Resu
 // The places of each row's power of ten.
 fn places(alloc: Global, instance: &Instance) -> Result<List<u8>, AllocError>
     requires { KeepsFacts instance.now.triple }
-    ensures exact { IfOk result (λ places. places ≡ places_of instance.now) }
+    ensures exact { IfOk result (λ places. places ≡ row_places_of instance.now) }
     ensures few { IfOk result (λ places. All (λ p. p ≤ 9) places) }
 {
     row_places(
@@ -48,7 +48,8 @@ fn places(alloc: Global, instance: &Instance) -> Result<List<u8>, AllocError>
 fn put_rows<K: Sink>(alloc: Global, out: &mut K, instance: &Instance) -> Result<(), Status>
     requires { KeepsFacts instance.now.triple }
     ensures text { PutsText
-        (concat (row_lines_of instance.now.triple.core instance.now.run (places_of instance.now)))
+        (concat
+        (row_lines_of instance.now.triple.core instance.now.run (row_places_of instance.now)))
         (K.written out.old) (K.written out.new) result }
     ensures count { CountsTo (K.count out.old) (K.count out.new) (reported write_fault_of result) }
 {

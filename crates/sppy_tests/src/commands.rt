@@ -1,5 +1,5 @@
 use crate::fixtures::{SMALL, WAIT, input, ran};
-use sppy_cli::{CoreKind, InputFile, InputKind, Status, StochKind, TimeKind};
+use sppy_cli::{CoreKind, InputFile, InputKind, StochKind, TimeKind};
 use std::test::Fail;
 
 // The first file that has a fault is told, whatever stands behind it.

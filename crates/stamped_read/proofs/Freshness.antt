@@ -2,9 +2,8 @@
 use Rattle.std.proofs.Common.{◌≡◌, ℕ, ◌+◌, ◌<◌, ◌≤◌, List, [], ◌∷◌, ◌++◌, map, length, get_or, sym, ap, ◌∙◌, arith}
 use Rattle.std.specs.List.{range_with_len}
 use Rattle.std.proofs.lemmas.List.FromFn.{get_or-map-range_with_len, length-map-range_with_len, map-range_with_len_more}
-use Rattle.wide_num.specs.RoomContents.{Contents}
+use Rattle.wide_num.specs.RoomContents.{Contents, with_room, room_of}
 use Rattle.window_words.specs.declared.views.View.{View}
-use Rattle.window_words.specs.Rooms.{with_room, room_of}
 use Rattle.stamped_read.specs.Readers.{IsReader, fresh_part, fresh_reader}
 use Rattle.stamped_read.specs.Promises.{ReadsFor}
 
@@ -36,7 +35,7 @@ module _ (wide : ℕ → ℕ) (lead n : ℕ) (parts : List (Contents ℕ)) (all 
       same wide i = let z : 0 + i ≡ i = omega arith in omega (arith, ap wide z)
 
 -- a fresh reader of one window of three words
-pub reply_stands : (entry : ℕ → ℕ → List ℕ) (wide : ℕ → ℕ) (count : ℕ) (v : View) (w : ℕ) → w < count → wide w ≡ 3 → ReadsFor entry wide count v (fresh_reader w (with_room 3 ∷ []))
+reply_stands : (entry : ℕ → ℕ → List ℕ) (wide : ℕ → ℕ) (count : ℕ) (v : View) (w : ℕ) → w < count → wide w ≡ 3 → ReadsFor entry wide count v (fresh_reader w (with_room 3 ∷ []))
 reply_stands entry wide count v w below three = record {
   laid = λ i l. first i (omega arith);
   reading = λ b. absurd (cc);

@@ -1,15 +1,15 @@
 -- What ties a reader to its seat holds after each call, and a reading that ends is whole.
-use Rattle.std.proofs.Common.{◌≡◌, ℕ, zero, suc, ◌+◌, ◌*◌, ◌/◌, ◌<◌, ◌≤◌, Bool, true, false, nat_eq, nat_lt, if◌then◌else◌, List, [], ◌∷◌, length, get_or, set, sym, refl, ap, ◌∙◌, subst, arith, get_or-set_other, get_or-set_same, length-set}
+use Rattle.std.proofs.Common.{◌≡◌, ℕ, zero, suc, ◌+◌, ◌*◌, ◌/◌, ◌<◌, ◌≤◌, Bool, true, false, nat_eq, if◌then◌else◌, List, [], ◌∷◌, length, get_or, set, sym, refl, ap, ◌∙◌, subst, arith, get_or-set_other, get_or-set_same, length-set}
 use Rattle.std.specs.Prelude.{Option, Some, None}
 use Rattle.std.proofs.lemmas.Bool.Decides.{nat_tests}
+use Rattle.base_words.proofs.NumberTests.{not_less_from_test}
 use borrow.Author.Count.{below_more}
-use Rattle.wide_num.specs.RoomContents.{Contents}
+use Rattle.wide_num.specs.RoomContents.{Contents, with_room, room_of}
 use Rattle.window_words.specs.Views.{gained, longer}
 use Rattle.window_words.specs.declared.views.View.{View}
 use Rattle.window_words.specs.declared.views.Reading.{Reading}
 use Rattle.window_words.specs.declared.views.Call.TheVariants as call
 use Rattle.window_words.proofs.Listed.{length_push}
-use Rattle.window_words.specs.Rooms.{with_room, room_of}
 use Rattle.stamped_read.specs.declared.read.Again.{Again}
 use Rattle.stamped_read.specs.declared.read.Again.TheVariants.{Torn}
 use Rattle.stamped_read.specs.declared.read.Read.{Read}
@@ -32,9 +32,6 @@ fit_stamp s n e l = grind (arith, nat_tests)
 -- what tests tell
 equal : (a b : ℕ) → nat_eq a b ≡ true → a ≡ b
 equal a b e = grind (arith, nat_tests)
-
-not_below : (a b : ℕ) → nat_lt a b ≡ false → b ≤ a
-not_below a b e = grind (arith, nat_tests)
 
 pub some_left : (b : Bool) (n : ℕ) → (n ≡ 0 → b ≡ true) → b ≡ false → 0 < n
 some_left b zero h e = let t = h refl in absurd (cc)
@@ -73,7 +70,7 @@ module _ (entry : ℕ → ℕ → List ℕ) (wide : ℕ → ℕ) (count most : �
       let last = whole record { window = window_of s; first = s.first; words = words_of s s.rank } (s.first / 2) (h.reading begun) (omega arith) (omega arith) same in
       (last.0, below_more (λ (i : ℕ). words_of s i ≡ entry (s.window + i) (s.first / 2)) s.rank h.parts last.1)
 
-  pub end_stands : (v' : View) → s' ≡ ends s n → ReadsFor entry wide count v' s'
+  end_stands : (v' : View) → s' ≡ ends s n → ReadsFor entry wide count v' s'
   end_stands v' is = cases (nat_eq n s.first) (is_more s) (equal n s.first) is
     where
       cases : (b more : Bool) → (b ≡ true → n ≡ s.first) → s' ≡ (if b then follows more s else restarted s) → ReadsFor entry wide count v' s'
@@ -82,7 +79,7 @@ module _ (entry : ℕ → ℕ → List ℕ) (wide : ℕ → ℕ) (count most : �
       cases false more same is = subst (ReadsFor entry wide count v') (sym is) record { laid = h.laid; reading = λ b. absurd (cc); parts = λ i l. absurd (omega arith) }
 
   pub end_tells : s' ≡ ends s n → told ≡ ends_told s n → TellsWhole entry most s s' told
-  end_tells is e = cases (nat_eq n s.first) (is_more s) (Torn s.rank s.first n) (equal n s.first) (not_below (s.rank + 1) (length s.parts)) is e
+  end_tells is e = cases (nat_eq n s.first) (is_more s) (Torn s.rank s.first n) (equal n s.first) (not_less_from_test (s.rank + 1) (length s.parts)) is e
     where
       cases : (b more : Bool) (torn : Again) → (b ≡ true → n ≡ s.first) → (more ≡ false → length s.parts ≤ s.rank + 1) → s' ≡ (if b then follows more s else restarted s) → told ≡ (if b then follows_told more s else read.Again torn) → TellsWhole entry most s s' told
       cases true true torn same none is e = subst (TellsWhole entry most s s') (sym e) (ap (λ (z : Reader). z.last) is)

@@ -1,9 +1,9 @@
 -- What ties a reader to the seat that it reads through, and what its answers promise.
 use Rattle.std.specs.Prelude.{◌≡◌, ℕ, ◌+◌, ◌/◌, ◌<◌, ◌≤◌, true, List, length, Some}
+use Rattle.wide_num.specs.RoomContents.{room_of}
 use Rattle.window_words.specs.Views.{after}
 use Rattle.window_words.specs.declared.views.View.{View}
 use Rattle.window_words.specs.declared.views.Call.{Call}
-use Rattle.window_words.specs.Rooms.{room_of}
 use Rattle.stamped_read.specs.declared.read.Read.{Read}
 use Rattle.stamped_read.specs.declared.read.Read.TheVariants as read
 use Rattle.stamped_read.specs.Readers.{Reader, part, words_of, window_of, next, read_told}

@@ -1,9 +1,8 @@
 -- What a reader of windows shows, the call that is due, and what its answer tells and changes.
 use Rattle.std.specs.Prelude.{◌≡◌, ℕ, ◌+◌, ◌-◌, ◌/◌, ◌%◌, ◌<◌, Bool, true, false, nat_eq, nat_le, nat_lt, if◌then◌else◌, List, [], ◌∷◌, ◌++◌, length, slice_index_or, slice_set, Option, Some, None}
-use Rattle.wide_num.specs.RoomContents.{Contents}
+use Rattle.wide_num.specs.RoomContents.{Contents, with_room, room_of}
 use Rattle.window_words.specs.declared.views.Call.{Call}
 use Rattle.window_words.specs.declared.views.Call.TheVariants as call
-use Rattle.window_words.specs.Rooms.{with_room, room_of}
 use Rattle.stamped_read.specs.declared.read.Again.{Again}
 use Rattle.stamped_read.specs.declared.read.Again.TheVariants.{Odd, Old, Torn, Mixed}
 use Rattle.stamped_read.specs.declared.read.Read.{Read}

@@ -1,5 +1,5 @@
 ghost use Rattle.std.specs.Prelude.{◌≡◌, ◌<◌, IsTrue, ◌↔◌, IfOk};
-ghost use Rattle.window_words.specs.Rooms.{with_room};
+ghost use Rattle.wide_num.specs.RoomContents.{with_room};
 ghost use Rattle.stamped_read.specs.Readers.{emptied, longer_part};
 
 use std::alloc::{AllocError, Global};

@@ -1,5 +1,5 @@
 ghost use Rattle.std.specs.Prelude.{◌≡◌, ℕ, ◌<◌, true, [], ◌∷◌, length, IsTrue, ◌↔◌};
-ghost use Rattle.window_words.specs.Rooms.{with_room};
+ghost use Rattle.wide_num.specs.RoomContents.{with_room};
 ghost use Rattle.stamped_read.specs.Readers.{fresh_reader, part, words_of, window_of};
 ghost use Rattle.stamped_read.specs.Readers.{due, unfit, begins, begins_told, reads, IsReader};
 ghost use Rattle.stamped_read.specs.Readers.{ends, ends_told};

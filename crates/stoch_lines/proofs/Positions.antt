@@ -9,7 +9,7 @@ use Rattle.std.proofs.Common.{not, ◌||◌, ◌+◌, suc}
 pub position_none : {X : Type 0} (p : X → Bool) (xs : List X) → position p xs ≡ None → position_or_len p xs ≡ length xs
 position_none p xs none = grind (arith, common_steps, prefix_len-le-length (λ x. not (p x)) xs)
 
-pub position_some : {X : Type 0} (p : X → Bool) (xs : List X) (k : ℕ) → position p xs ≡ Some k → position_or_len p xs ≡ k
+position_some : {X : Type 0} (p : X → Bool) (xs : List X) (k : ℕ) → position p xs ≡ Some k → position_or_len p xs ≡ k
 position_some p xs k some = grind (arith, common_steps)
 
 pub position_below : {X : Type 0} (p : X → Bool) (xs : List X) (k : ℕ) → position p xs ≡ Some k → k < length xs
@@ -23,24 +23,12 @@ pub none_passes : {X : Type 0} (p : X → Bool) (xs : List X) → list_any p xs 
 none_passes p [] e = refl
 none_passes p (x ∷ xs) e = below_step (p x) (list_any p xs) (position_or_len p xs) (length xs) (none_passes p xs) e
 
-above_step : (b rest : Bool) (n len : ℕ) → (rest ≡ true → n < len) → (b || rest) ≡ true → cond (not b) (1 + n) 0 < suc len
-above_step true rest n len on e = omega arith
-above_step false rest n len on e = omega (arith, on e)
-
-pub some_passes : {X : Type 0} (p : X → Bool) (xs : List X) → list_any p xs ≡ true → position_or_len p xs < length xs
-some_passes p [] e = absurd (cc e)
-some_passes p (x ∷ xs) e = above_step (p x) (list_any p xs) (position_or_len p xs) (length xs) (some_passes p xs) e
-
 any_some_by : {X : Type 0} (p : X → Bool) (xs : List X) (k : ℕ) → position p xs ≡ Some k → (b : Bool) → list_any p xs ≡ b → b ≡ true
 any_some_by p xs k some true e = refl
 any_some_by p xs k some false e =
     let below = position_below p xs k some in
     let same = position_some p xs k some in
     absurd (omega (arith, below, same, none_passes p xs e))
-
-any_none_by : {X : Type 0} (p : X → Bool) (xs : List X) → position p xs ≡ None → (b : Bool) → list_any p xs ≡ b → b ≡ false
-any_none_by p xs none false e = refl
-any_none_by p xs none true e = absurd (omega (arith, position_none p xs none, some_passes p xs e))
 
 any_by : {X : Type 0} (p : X → Bool) (xs : List X) → position_or_len p xs ≢ length xs → (b : Bool) → list_any p xs ≡ b → b ≡ true
 any_by p xs other true e = refl
@@ -53,6 +41,3 @@ any_before_end p xs other = any_by p xs other (list_any p xs) refl
 -- whether some item passes, by the place of the first one that does
 pub any_some : {X : Type 0} (p : X → Bool) (xs : List X) (k : ℕ) → position p xs ≡ Some k → list_any p xs ≡ true
 any_some p xs k some = any_some_by p xs k some (list_any p xs) refl
-
-pub any_none : {X : Type 0} (p : X → Bool) (xs : List X) → position p xs ≡ None → list_any p xs ≡ false
-any_none p xs none = any_none_by p xs none (list_any p xs) refl

@@ -125,7 +125,9 @@ block_fault periods b line =
 
 -- whether a name stands for the core where a parent is named
 abbrev pub is_root : List ℕ → Bool
-is_root name = bytes_eq name (codes "ROOT") || (bytes_eq name (codes "'ROOT'") || bytes_eq name (codes "\"ROOT\""))
+is_root name =
+    bytes_eq name (codes "ROOT")
+    || (bytes_eq name (codes "'ROOT'") || bytes_eq name (codes "\"ROOT\""))
 
 -- whether a scenario has this name
 abbrev pub is_scenario : Before → List ℕ → Bool
@@ -256,7 +258,8 @@ section_fault section line = first_true
 abbrev pub header_fault : Before → TextLine → Option StochKind
 header_fault b line =
     if is_header (codes "STOCH") line then first_true ((not b.nothing, Section) ∷ [])
-    else (if is_header (codes "ENDATA") line then first_true ((not (field_count line == 1), Fields) ∷ [])
+    else (if is_header (codes "ENDATA") line
+    then first_true ((not (field_count line == 1), Fields) ∷ [])
     else section_fault b.section line)
 
 -- any line

@@ -10,7 +10,8 @@ ghost use Rattle.stoch_lines.specs.Places.{period_of};
 
 use crate::kinds::{StochFault, StochKind};
 use dec_core::{DecFault, Decimal, read};
-use smps_words::{FileLine, Periods, same};
+use smps_words::{FileLine, Periods};
+use wide_num::same;
 
 /// A fault of this kind at a line.
 pub fn fault_at(line: &FileLine<'_>, kind: StochKind) -> StochFault
@@ -105,7 +106,8 @@ pub fn known_period(periods: &Periods, name: &[u8]) -> Result<u8, StochKind>
 }
 
 fn is_quoted_root(name: &[u8]) -> bool
-    ensures { result ≡ (bytes_eq name.now (codes "'ROOT'") || bytes_eq name.now (codes "\"ROOT\"")) }
+    ensures { result
+        ≡ (bytes_eq name.now (codes "'ROOT'") || bytes_eq name.now (codes "\"ROOT\"")) }
 {
     same(name, b"'ROOT'") || same(name, b"\"ROOT\"")
 }

@@ -11,7 +11,8 @@ use crate::fields::fault_at;
 use crate::heading::Heading;
 use crate::kinds::{StochFault, StochKind};
 use crate::state::State;
-use smps_words::{FileLine, same};
+use smps_words::FileLine;
+use wide_num::same;
 
 fn heading_of(word: &[u8]) -> Option<Heading>
     ensures { result ≡ heading_of word.now }

@@ -4,7 +4,8 @@ ghost use Rattle.stoch_lines.specs.Places.{place_in_column, place_on_right, is_r
 ghost use Rattle.stoch_lines.specs.Sayings.{first_column, place_at};
 
 use crate::places::StochPlace;
-use smps_words::{Core, FileLine, Periods, same};
+use smps_words::{Core, FileLine, Periods};
+use wide_num::same;
 
 fn place_in_column(core: &Core, column: u32, row: &[u8]) -> Option<StochPlace>
     ensures { result ≡ place_in_column core.now column row.now }

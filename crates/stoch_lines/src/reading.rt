@@ -11,18 +11,8 @@ ghost use Rattle.stoch_lines.specs.StochOutcome.{fault_after, said_meaning, step
 use crate::kinds::{StochFault, StochKind};
 use crate::state::State;
 use line_core::{Line, LineFault, lines};
-use smps_words::{Core, FileLine, Periods};
+use smps_words::{Core, FileLine, Periods, last_number};
 use std::alloc::Global;
-
-// The number of the last line, 0 if there is none.
-fn last_number(bytes: &[u8], lines: &[Line]) -> u64
-    ensures { result ≡ last_number (text_lines bytes.now lines.now) }
-{
-    match lines.last() {
-        Some(line) => line.number,
-        None => 0,
-    }
-}
 
 // The fault of lines without an end.
 fn no_end(bytes: &[u8], lines: &[Line]) -> StochFault

@@ -2,7 +2,7 @@
 use Rattle.std.specs.Prelude.{◌≡◌, ℕ, ℤ, List, [], ◌∷◌, ◌++◌, codes}
 use Rattle.std.specs.Fmt.{signed_decimal}
 use Rattle.wide_num.specs.declared.fraction.Fraction.{Fraction}
-use Rattle.wide_num.specs.FractionText.{text_of}
+use Rattle.wide_num.specs.FractionText.{fraction_text}
 use Rattle.wide_num.specs.LowestTerms.{IsLowest}
 use Rattle.text_lines.specs.Lines.{line_of}
 
@@ -10,7 +10,7 @@ use Rattle.text_lines.specs.Lines.{line_of}
 abbrev pub bound_lines_of : ℤ → Fraction → List (List ℕ)
 bound_lines_of bound value =
     line_of (codes "first " ++ signed_decimal bound ++ codes " none")
-    ∷ line_of (codes "lower " ++ signed_decimal bound ++ codes " = " ++ text_of value)
+    ∷ line_of (codes "lower " ++ signed_decimal bound ++ codes " = " ++ fraction_text value)
     ∷ line_of (codes "upper none")
     ∷ []
 

@@ -22,12 +22,15 @@ whole_text core = codes " taken-whole " ++ decimal (taken_whole core)
 -- how many scenarios, periods and nodes there are
 abbrev pub tree_line : Run → List ℕ
 tree_line run =
-    line_of (codes "scenarios " ++ decimal (length run.program.scenarios) ++ codes " periods " ++ decimal run.program.tree.stages ++ codes " nodes " ++ decimal (length run.program.tree.nodes))
+    line_of (codes "scenarios " ++ decimal (length run.program.scenarios) ++ codes " periods "
+    ++ decimal run.program.tree.stages ++ codes " nodes "
+    ++ decimal (length run.program.tree.nodes))
 
 -- how many columns and rows there are
 abbrev pub core_line : Core → Run → List ℕ
 core_line core run =
-    line_of (codes "columns " ++ decimal (length run.program.columns) ++ whole_text core ++ codes " rows " ++ decimal (length run.program.rows))
+    line_of (codes "columns " ++ decimal (length run.program.columns) ++ whole_text core
+    ++ codes " rows " ++ decimal (length run.program.rows))
 
 -- the four lines of the heading
 abbrev pub heading_of : Core → Run → List (List ℕ)

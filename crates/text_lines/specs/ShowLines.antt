@@ -20,11 +20,13 @@ no_row = record { stage = 0; lower = None; upper = None }
 
 -- a box, each end behind a blank
 abbrev pub box_text : Column → List ℕ
-box_text column = codes " " ++ signed_decimal column.lower ++ codes " " ++ signed_decimal column.upper
+box_text column =
+    codes " " ++ signed_decimal column.lower ++ codes " " ++ signed_decimal column.upper
 
 -- a column: its name, its stage and its box
 abbrev pub column_text : List ℕ → Column → List ℕ
-column_text name column = codes "column " ++ name ++ codes " " ++ decimal column.stage ++ box_text column
+column_text name column =
+    codes "column " ++ name ++ codes " " ++ decimal column.stage ++ box_text column
 
 abbrev pub column_line : Core → Run → ℕ → List ℕ
 column_line core run j = line_of
@@ -33,7 +35,9 @@ column_line core run j = line_of
 -- row i: its name, its stage, and the power of ten by which its numbers were multiplied
 abbrev pub row_line : Core → Run → List ℕ → ℕ → List ℕ
 row_line core run places i =
-    line_of (codes "row " ++ name_at core.row_names i ++ codes " " ++ decimal (slice_index_or run.program.rows i no_row).stage ++ codes " " ++ decimal (10 ^ slice_index_or places i 0))
+    line_of (codes "row " ++ name_at core.row_names i ++ codes " "
+    ++ decimal (slice_index_or run.program.rows i no_row).stage ++ codes " "
+    ++ decimal (10 ^ slice_index_or places i 0))
 
 -- the node in which scenario s stands at stage t, counted from 1
 unfoldable pub node_text : Run → ℕ → ℕ → List ℕ
@@ -46,12 +50,14 @@ nodes_text run s = flat_map (node_text run s) (range_with_len 1 run.program.tree
 -- scenario s, counted from 1: its weight and its nodes
 abbrev pub scenario_line : Run → ℕ → List ℕ
 scenario_line run s =
-    line_of (codes "scenario " ++ decimal (s + 1) ++ codes " weight " ++ signed_decimal (scenario_at run s).weight ++ codes " nodes" ++ nodes_text run s)
+    line_of (codes "scenario " ++ decimal (s + 1) ++ codes " weight "
+    ++ signed_decimal (scenario_at run s).weight ++ codes " nodes" ++ nodes_text run s)
 
 -- the line of the limits of row i in scenario s
 abbrev pub limits_line : Core → ℕ → ℕ → Limits → List ℕ
 limits_line core s i limits =
-    line_of (codes "limits " ++ decimal (s + 1) ++ codes " " ++ name_at core.row_names i ++ codes " " ++ limit_text limits.lower ++ codes " " ++ limit_text limits.upper)
+    line_of (codes "limits " ++ decimal (s + 1) ++ codes " " ++ name_at core.row_names i
+    ++ codes " " ++ limit_text limits.lower ++ codes " " ++ limit_text limits.upper)
 
 -- scenario s, and the limits of each row in it
 abbrev pub scenario_lines_of : Core → Run → ℕ → List (List ℕ)

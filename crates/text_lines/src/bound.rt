@@ -1,6 +1,6 @@
 ghost use Rattle.std.specs.Prelude.{◌≡◌, ◌++◌, ◌<ℤ◌, ◌^◌, pos, neg_ℤ, codes, IfOk};
 ghost use Rattle.std.specs.Fmt.{signed_decimal};
-ghost use Rattle.wide_num.specs.FractionText.{text_of};
+ghost use Rattle.wide_num.specs.FractionText.{fraction_text};
 ghost use Rattle.text_lines.specs.BoundLines.{IsBoundText, bound_lines_of};
 ghost use Rattle.text_lines.specs.Lines.{AreFull, line_of};
 
@@ -21,7 +21,8 @@ fn first_line(alloc: Global, bound: i128) -> Result<Text, AllocError>
 fn lower_line(alloc: Global, bound: i128, value: &Fraction) -> Result<Text, AllocError>
     ensures { IfOk result
         (λ text. text
-        ≡ line_of (codes "lower " ++ signed_decimal bound ++ codes " = " ++ text_of value.now)) }
+        ≡ line_of
+        (codes "lower " ++ signed_decimal bound ++ codes " = " ++ fraction_text value.now)) }
 {
     let text = value.text(alloc)?;
     let mut line = Vec::new(alloc);

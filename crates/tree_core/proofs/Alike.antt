@@ -9,6 +9,7 @@ use Rattle.std.proofs.lemmas.List.FromFn.{get_or-range_with_len, length-range_wi
 use Rattle.std.proofs.lemmas.List.Kept.{AllPairs-filter}
 use Rattle.std.proofs.lemmas.List.Quantifiers.{position-Some}
 use Rattle.std.proofs.lemmas.List.Sums.{sum_by-append, sum_by-cons}
+use Rattle.base_words.proofs.NumberTests.{same_from_test}
 use Rattle.tree_core.specs.Marks.{alike, firsts, is_marked_before}
 use Rattle.tree_core.proofs.FirstOnes.{alike_more, firsts_new, firsts_old, key_count, place_of, place_taken}
 use Rattle.tree_core.proofs.Listing.{any_counted, none_pass, ones}
@@ -133,7 +134,7 @@ alike_count mark (suc n) f s h =
         omega (arith, at_end (mark f == mark n) false e, r before, none (mark f == mark n))
 
 -- counted over several marks
-pub alike_counts : (mark : ℕ → ℕ) (n s : ℕ) (fs : List ℕ) → s < n → count_by (λ u. u == s) (flat_map (alike mark n) fs) ≡ count_by (λ f. mark f == mark s) fs
+alike_counts : (mark : ℕ → ℕ) (n s : ℕ) (fs : List ℕ) → s < n → count_by (λ u. u == s) (flat_map (alike mark n) fs) ≡ count_by (λ f. mark f == mark s) fs
 alike_counts mark n s [] h = refl
 alike_counts mark n s (f ∷ fs) h =
     sum_by-append (λ u. cond (u == s) 1 0) (alike mark n f) (flat_map (alike mark n) fs)
@@ -142,7 +143,7 @@ alike_counts mark n s (f ∷ fs) h =
     ∙ sym (sum_by-cons (λ g. cond (mark g == mark s) 1 0) f fs)
 
 -- the mark of a scenario is taken behind it
-pub taken_below : (mark : ℕ → ℕ) (n s : ℕ) → s < n → is_marked_before mark n (mark s) ≡ true
+taken_below : (mark : ℕ → ℕ) (n s : ℕ) → s < n → is_marked_before mark n (mark s) ≡ true
 taken_below mark n s h =
     let at : get_or (range_with_len 0 n) s 0 ≡ s = get_or-range_with_len 0 n s 0 h ∙ omega arith in
     let own : (mark s == mark s) ≡ true = grind arith in
@@ -156,12 +157,9 @@ stands_once mark n s h = alike_counts mark n s (firsts mark n) h ∙ key_count m
 pub counted_in : (xs : List ℕ) (s : ℕ) → count_by (λ u. u == s) xs ≡ 1 → Contains xs s
 counted_in xs s h =
     let found = Any-from_list_any (λ u. u == s) xs (any_counted (λ u. u == s) xs true h) in
-    let same : found.1 ≡ s = number (found.1) s found.4 in
+    let same : found.1 ≡ s = same_from_test (found.1) s found.4 in
     let P : ℕ → Type 0 = λ u. get_or xs found.0 u ≡ u in
     (found.0, found.2, subst P same found.3)
-  where
-    number : (a b : ℕ) → (a == b) ≡ true → a ≡ b
-    number a b e = grind arith
 
 -- the first scenario of a mark
 pub record HasFirst (mark : ℕ → ℕ) (n s f : ℕ) : Type 0 where
@@ -171,12 +169,9 @@ pub record HasFirst (mark : ℕ → ℕ) (n s f : ℕ) : Type 0 where
 pub first_found : (mark : ℕ → ℕ) (n s : ℕ) → s < n → (f : ℕ) × HasFirst mark n s f
 first_found mark n s h = by_place (place_of mark n (mark s)) refl (place_taken mark n (mark s) ∙ taken_below mark n s h)
   where
-    number : (a b : ℕ) → (a == b) ≡ true → a ≡ b
-    number a b e = grind arith
-
     by_place : (o : Option ℕ) → place_of mark n (mark s) ≡ o → is_some (place_of mark n (mark s)) ≡ true → (f : ℕ) × HasFirst mark n s f
     by_place None e t = absurd (let x = sym (ap is_some e) ∙ t in cc)
     by_place (Some k) e t =
         let at = position-Some (λ f. mark f == mark s) (firsts mark n) k 0 e in
         let f = get_or (firsts mark n) k 0 in
-        (f, record { listed = (k, at.0, get_or_default (firsts mark n) k f 0 at.0); same = number (mark f) (mark s) at.1 })
+        (f, record { listed = (k, at.0, get_or_default (firsts mark n) k f 0 at.0); same = same_from_test (mark f) (mark s) at.1 })

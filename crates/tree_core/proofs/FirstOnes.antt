@@ -61,7 +61,7 @@ groups_more mark n [] = refl
 groups_more mark n (f ∷ fs) = ap (λ g. g ∷ map (alike mark (suc n)) fs) (alike_more mark n f) ∙ ap (λ gs. (alike mark n f ++ cond (mark f == mark n) (n ∷ []) []) ∷ gs) (groups_more mark n fs)
 
 -- a scenario of a mark that isn't taken begins a list
-pub groups_new : (mark : ℕ → ℕ) (n : ℕ) → place_of mark n (mark n) ≡ None → groups mark (suc n) ≡ groups mark n ++ (n ∷ []) ∷ []
+groups_new : (mark : ℕ → ℕ) (n : ℕ) → place_of mark n (mark n) ≡ None → groups mark (suc n) ≡ groups mark n ++ (n ∷ []) ∷ []
 groups_new mark n h =
     let free : is_marked_before mark n (mark n) ≡ false = sym (place_taken mark n (mark n)) ∙ ap is_some h in
     let alone : alike mark n n ≡ [] = none_pass (λ u. mark n == mark u) (λ u. mark u == mark n) (λ u. grind arith) (range_with_len 0 n) free in
@@ -74,7 +74,7 @@ groups_new mark n h =
     ∙ ap (λ t. groups mark n ++ cond t (n ∷ []) [] ∷ []) same
 
 -- a scenario of a mark that is taken goes to the end of the list of the mark
-pub groups_old : (mark : ℕ → ℕ) (n k : ℕ) → place_of mark n (mark n) ≡ Some k → groups mark (suc n) ≡ set (groups mark n) k (get_or (groups mark n) k [] ++ n ∷ [])
+groups_old : (mark : ℕ → ℕ) (n k : ℕ) → place_of mark n (mark n) ≡ Some k → groups mark (suc n) ≡ set (groups mark n) k (get_or (groups mark n) k [] ++ n ∷ [])
 groups_old mark n k h =
     let taken : is_marked_before mark n (mark n) ≡ true = sym (place_taken mark n (mark n)) ∙ ap is_some h in
     groups_more mark n (firsts mark (suc n))
@@ -82,7 +82,7 @@ groups_old mark n k h =
     ∙ joined_at (λ f. mark f == mark n) (alike mark n) n (firsts mark n) k (key_count mark n (mark n) ∙ ap (λ t. cond t 1 0) taken) h
 
 -- the places of the marks after a new one
-pub places_new : (mark : ℕ → ℕ) (n key : ℕ) → place_of mark n (mark n) ≡ None → place_of mark (suc n) key ≡ cond (mark n == key) (Some (length (firsts mark n))) (place_of mark n key)
+places_new : (mark : ℕ → ℕ) (n key : ℕ) → place_of mark n (mark n) ≡ None → place_of mark (suc n) key ≡ cond (mark n == key) (Some (length (firsts mark n))) (place_of mark n key)
 places_new mark n key h =
     let free : is_marked_before mark n (mark n) ≡ false = sym (place_taken mark n (mark n)) ∙ ap is_some h in
     ap (position (λ f. mark f == key)) (firsts_new mark n free) ∙ place_push (λ f. mark f == key) (firsts mark n) n ∙ by_same (mark n == key) (λ s. ap (place_of mark n) (sym (same_mark s)) ∙ h)
@@ -95,7 +95,7 @@ places_new mark n key h =
     by_same false r = option_or_none (place_of mark n key)
 
 -- the places stay where the mark is taken
-pub places_old : (mark : ℕ → ℕ) (n k key : ℕ) → place_of mark n (mark n) ≡ Some k → place_of mark (suc n) key ≡ place_of mark n key
+places_old : (mark : ℕ → ℕ) (n k key : ℕ) → place_of mark n (mark n) ≡ Some k → place_of mark (suc n) key ≡ place_of mark n key
 places_old mark n k key h =
     let taken : is_marked_before mark n (mark n) ≡ true = sym (place_taken mark n (mark n)) ∙ ap is_some h in
     ap (position (λ f. mark f == key)) (firsts_old mark n taken)

@@ -8,8 +8,10 @@ use Rattle.std.proofs.lemmas.List.Folds.{list_any-append}
 use Rattle.std.proofs.lemmas.List.Sums.{position_or_len_is, prefix_len_stops, sum_by-cons}
 use Rattle.base_words.proofs.ListSumsByNumber.{range_more}
 use Rattle.base_words.proofs.Booleans.{or_false}
+use Rattle.base_words.proofs.Comparisons.{not_not}
+use Rattle.base_words.proofs.FirstAnswers.{same_some}
 
-pub range_push : (n : ℕ) → range_with_len 0 (suc n) ≡ range_with_len 0 n ++ n ∷ []
+range_push : (n : ℕ) → range_with_len 0 (suc n) ≡ range_with_len 0 n ++ n ∷ []
 range_push n = let e : 0 + n ≡ n = omega arith in range_more 0 n ∙ ap (λ m. range_with_len 0 n ++ m ∷ []) e
 
 -- 1 where a test holds, else 0
@@ -93,9 +95,6 @@ joined_none {A} p g n (f ∷ fs) h = by_test (p f) refl (sym (sum_by-cons (λ x.
     by_test true e c r = absurd (omega arith)
     by_test false e c r = ap (λ t. (g f ++ cond t (n ∷ []) []) ∷ map (λ x. g x ++ cond (p x) (n ∷ []) []) fs) e ∙ ap (λ l. l ∷ map (λ x. g x ++ cond (p x) (n ∷ []) []) fs) (append-nil (g f)) ∙ ap (λ ls. g f ∷ ls) (r (omega arith))
 
-some_same : {a b : ℕ} → Some a ≡ Some b → a ≡ b
-some_same e = cc
-
 -- the one list whose item passes grows
 pub joined_at : {A : Type 0} (p : A → Bool) (g : A → List ℕ) (n : ℕ) (fs : List A) (k : ℕ) → count_by p fs ≡ 1 → position p fs ≡ Some k → map (λ f. g f ++ cond (p f) (n ∷ []) []) fs ≡ set (map g fs) k (get_or (map g fs) k [] ++ n ∷ [])
 joined_at p g n [] k h e = absurd (omega arith)
@@ -107,10 +106,10 @@ joined_at {A} p g n (f ∷ fs) k h e = by_test (p f) refl (sym (sum_by-cons (λ 
 
     behind : (o : Option ℕ) → option_map (λ j. j + 1) o ≡ Some k → (j : ℕ) × (o ≡ Some j) × (k ≡ suc j)
     behind None q = cc
-    behind (Some j) q = (j, refl, omega (arith, some_same q))
+    behind (Some j) q = (j, refl, omega (arith, same_some q))
 
     by_test : (t : Bool) → p f ≡ t → cond t 1 0 + count_by p fs ≡ 1 → cond t (Some 0) (option_map (λ j. j + 1) (position p fs)) ≡ Some k → ((j : ℕ) → count_by p fs ≡ 1 → position p fs ≡ Some j → map (λ x. g x ++ cond (p x) (n ∷ []) []) fs ≡ set (map g fs) j (get_or (map g fs) j [] ++ n ∷ [])) → map (λ x. g x ++ cond (p x) (n ∷ []) []) (f ∷ fs) ≡ set (map g (f ∷ fs)) k (get_or (map g (f ∷ fs)) k [] ++ n ∷ [])
-    by_test true t c q r = ap (λ u. (g f ++ cond u (n ∷ []) []) ∷ map (λ x. g x ++ cond (p x) (n ∷ []) []) fs) t ∙ ap (λ ls. (g f ++ n ∷ []) ∷ ls) (joined_none p g n fs (omega arith)) ∙ at_head k (some_same q)
+    by_test true t c q r = ap (λ u. (g f ++ cond u (n ∷ []) []) ∷ map (λ x. g x ++ cond (p x) (n ∷ []) []) fs) t ∙ ap (λ ls. (g f ++ n ∷ []) ∷ ls) (joined_none p g n fs (omega arith)) ∙ at_head k (same_some q)
     by_test false t c q r =
         let found = behind (position p fs) q in
         let rest = r found.0 (omega arith) found.1 in
@@ -139,16 +138,4 @@ place_same p q (x ∷ xs) h = ap (λ b. cond (not b) (1 + position_or_len p xs) 
 
 -- an item passes at the first place that is there
 pub place_passes : {X : Type 0} (p : X → Bool) (xs : List X) (d : X) → position_or_len p xs < length xs → p (get_or xs (position_or_len p xs) d) ≡ true
-place_passes {X} p xs d h = by_test (p (get_or xs (position_or_len p xs) d)) (prefix_len_stops (λ x. not (p x)) xs d h)
-  where
-    by_test : (b : Bool) → not b ≡ false → b ≡ true
-    by_test true e = refl
-    by_test false e = cc
-
--- the first place is there where an item passes
-pub place_there : {X : Type 0} (p : X → Bool) (xs : List X) → list_any p xs ≡ true → position_or_len p xs < length xs
-place_there p xs h = by_test (nat_lt (position_or_len p xs) (length xs)) refl (sym (passes_is p xs) ∙ h)
-  where
-    by_test : (b : Bool) → nat_lt (position_or_len p xs) (length xs) ≡ b → is_some (cond b (Some (position_or_len p xs)) None) ≡ true → position_or_len p xs < length xs
-    by_test true e i = grind arith
-    by_test false e i = absurd (let x = i in cc)
+place_passes p xs d h = not_not (p (get_or xs (position_or_len p xs) d)) (prefix_len_stops (λ x. not (p x)) xs d h)

@@ -9,12 +9,13 @@ use Rattle.std.proofs.lemmas.List.FromFn.{length-range_with_len}
 use Rattle.std.proofs.lemmas.List.Kept.{AllPairs-cons}
 use Rattle.std.proofs.lemmas.List.Sums.{sum_by-le}
 use Rattle.base_words.proofs.ListSumsByNumber.{range_more}
+use Rattle.base_words.proofs.Pairs.{pairs_head, pairs_tail}
 use Rattle.tree_core.specs.declared.tree.Node.{Node}
 use Rattle.tree_core.specs.Marks.{node, nodes_at}
 use Rattle.tree_core.specs.Nodes.{nodes_of, Precedes}
 
 -- one stage more
-pub stage_more : {X : Type 0} (f : ℕ → List X) (n : ℕ) → flat_map f (range_with_len 1 (suc n)) ≡ flat_map f (range_with_len 1 n) ++ f (suc n)
+stage_more : {X : Type 0} (f : ℕ → List X) (n : ℕ) → flat_map f (range_with_len 1 (suc n)) ≡ flat_map f (range_with_len 1 n) ++ f (suc n)
 stage_more f n =
     let e : 1 + n ≡ suc n = omega arith in
     ap (flat_map f) (range_more 1 n ∙ ap (λ m. range_with_len 1 n ++ m ∷ []) e) ∙ flat_map-append f (range_with_len 1 n) (suc n ∷ []) ∙ ap (λ l. flat_map f (range_with_len 1 n) ++ l) (append-nil (f (suc n)))
@@ -43,7 +44,7 @@ kept_stage t u (g ∷ gs) = ap (λ ns. cond (u == t) (node u g ∷ ns) ns) (kept
     by_test false = refl
 
 -- no node of a stage past the last
-pub stage_past : (owners : List (List ℕ)) (t n : ℕ) → n < t → nodes_of (flat_map (nodes_at owners) (range_with_len 1 n)) t ≡ []
+stage_past : (owners : List (List ℕ)) (t n : ℕ) → n < t → nodes_of (flat_map (nodes_at owners) (range_with_len 1 n)) t ≡ []
 stage_past owners t zero h = refl
 stage_past owners t (suc n) h =
     let e : (suc n == t) ≡ false = grind arith in
@@ -86,17 +87,11 @@ in_stage {X} f x t (suc n) l h at = by_last (suc n == t) refl (λ k. in_stage f 
         let R : List X → Type 0 = λ xs. Contains xs x in
         subst R (sym (stage_more f n)) (Contains-append_left (flat_map f (range_with_len 1 n)) (f (suc n)) x (r earlier))
 
-pairs_tail : {X : Type 0} (R : X → X → Type 0) (x : X) (xs : List X) → AllPairs R (x ∷ xs) → AllPairs R xs
-pairs_tail R x xs h i j d l m = h (suc i) (suc j) d (omega arith) (omega arith)
-
-pairs_head : {X : Type 0} (R : X → X → Type 0) (x : X) (xs : List X) → AllPairs R (x ∷ xs) → All (R x) xs
-pairs_head R x xs h k d l = h 0 (suc k) d (omega arith) (omega arith)
-
 pairs_nil : {X : Type 0} (R : X → X → Type 0) → AllPairs R []
 pairs_nil R i j d l m = absurd (omega arith)
 
 -- pairs in two lists, and across them
-pub pairs_append : {X : Type 0} (R : X → X → Type 0) (xs ys : List X) → AllPairs R xs → AllPairs R ys → All (λ x. All (R x) ys) xs → AllPairs R (xs ++ ys)
+pairs_append : {X : Type 0} (R : X → X → Type 0) (xs ys : List X) → AllPairs R xs → AllPairs R ys → All (λ x. All (R x) ys) xs → AllPairs R (xs ++ ys)
 pairs_append R [] ys p q h = q
 pairs_append R (x ∷ xs) ys p q h =
     AllPairs-cons R x (xs ++ ys) (All-append (R x) xs ys (pairs_head R x xs p) (All-head (λ z. All (R z) ys) x xs h)) (pairs_append R xs ys (pairs_tail R x xs p) q (All-tail (λ z. All (R z) ys) x xs h))

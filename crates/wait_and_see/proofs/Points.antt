@@ -1,5 +1,5 @@
 -- Which scenarios have feasible points, by their least values.
-use Rattle.std.proofs.Common.{arith, ap, ◌≡◌, ℕ, zero, suc, ◌+◌, ◌<◌, ◌≤◌, ◌⊎◌, inl, inr, ℤ, ◌+ℤ◌, Option, Some, None, Err, refl, sym, subst}
+use Rattle.std.proofs.Common.{arith, ◌≡◌, ℕ, zero, suc, ◌+◌, ◌<◌, ◌≤◌, ◌⊎◌, inl, inr, ℤ, ◌+ℤ◌, Option, Some, None, Err, refl, sym, subst}
 use Rattle.std.proofs.lemmas.Bool.{cases_lt}
 use Rattle.std.specs.Option.{option_and_then, option_map}
 use Rattle.boxed_problem.specs.Data.{Problem}

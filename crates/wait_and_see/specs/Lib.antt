@@ -1,6 +1,7 @@
 pub mod WaitAnswers
 pub mod Spending
 pub mod Solving
+pub use Rattle.boxed_problem.specs.Data
 pub use Rattle.boxed_problem.specs.Optimum
 pub use Rattle.branch_bound.specs.Answers
 pub use Rattle.branch_bound.specs.PlainSearch

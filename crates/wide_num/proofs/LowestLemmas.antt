@@ -17,7 +17,7 @@ pub gcd_positive : (a b g : ℕ) → IsGcd a b g → 0 < b → 0 < g
 gcd_positive a b g h p = pos_of_dvd_of_pos h.1 p
 
 -- only 1 divides both of what the greatest common divisor leaves
-pub left_coprime : (a b g m n d : ℕ) → 0 < g → IsGcd a b g → a ≡ m * g → b ≡ n * g → d ∣ m → d ∣ n → d ≡ 1
+left_coprime : (a b g m n d : ℕ) → 0 < g → IsGcd a b g → a ≡ m * g → b ≡ n * g → d ∣ m → d ∣ n → d ≡ 1
 left_coprime a b g m n d p h e f x y =
     let ma : g * m ≡ a = grind arith in
     let nb : g * n ≡ b = grind arith in
@@ -26,7 +26,7 @@ left_coprime a b g m n d p h e f x y =
     dvd_antisymm (dvd_of_mul-dvd-mul_left d p (subst (λ k. g * d ∣ k) one both)) (one-dvd d)
 
 -- a number is its sign and magnitude, whose magnitude was divided by k
-pub signed_times : (a : ℤ) (m k : ℕ) (s : Bool) → unsigned_abs a ≡ m * k → (s ≡ true → a <ℤ pos 0) → (s ≡ false → pos 0 ≤ℤ a) → a ≡ signed s m *ℤ pos k
+signed_times : (a : ℤ) (m k : ℕ) (s : Bool) → unsigned_abs a ≡ m * k → (s ≡ true → a <ℤ pos 0) → (s ≡ false → pos 0 ≤ℤ a) → a ≡ signed s m *ℤ pos k
 signed_times (pos a) m k true e t f = absurd (omega (arith, ints, t refl))
 signed_times (negsuc a) m k true e t f = grind (arith, ints)
 signed_times (pos a) m k false e t f = ap pos e

@@ -5,6 +5,6 @@ use Rattle.std.specs.Fmt.{signed_decimal}
 use Rattle.wide_num.specs.declared.fraction.Fraction.{Fraction}
 
 -- the text of a fraction: its top, and behind a slash (47) its bottom where that isn't 1
-abbrev pub text_of : Fraction → List ℕ
-text_of f = if int_eq f.bottom (pos 1) then signed_decimal f.top
+abbrev pub fraction_text : Fraction → List ℕ
+fraction_text f = if int_eq f.bottom (pos 1) then signed_decimal f.top
     else (signed_decimal f.top ++ 47 ∷ signed_decimal f.bottom)

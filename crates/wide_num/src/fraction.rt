@@ -1,5 +1,5 @@
 ghost use Rattle.std.specs.Prelude.{◌≡◌, IfOk};
-ghost use Rattle.wide_num.specs.FractionText.{text_of};
+ghost use Rattle.wide_num.specs.FractionText.{fraction_text};
 
 use crate::items::{List, Text};
 use itoa::Buffer;
@@ -17,7 +17,7 @@ impl Fraction {
     /// The text of the fraction in decimal digits, with `-` before a negative
     /// number: the top alone where the bottom is 1, else `top/bottom`.
     pub fn text(&self, alloc: Global) -> Result<Text, AllocError>
-        ensures { IfOk result (λ text. text ≡ text_of self.now) }
+        ensures { IfOk result (λ text. text ≡ fraction_text self.now) }
     {
         let mut buffer = Buffer::new();
         let mut text = Vec::new(alloc);

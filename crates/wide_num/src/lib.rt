@@ -9,6 +9,7 @@ mod lowest;
 mod quotient;
 mod reserved;
 mod signs;
+mod texts;
 
 pub use checked::{Wide, add, mul};
 pub use fraction::Fraction;
@@ -17,6 +18,7 @@ pub use lowest::reduce;
 pub use quotient::{ceil_div, floor_div};
 pub use reserved::Room;
 pub use signs::signed;
+pub use texts::same;
 
 #[cfg(test)]
 mod tests;

@@ -88,21 +88,21 @@ module _ (b b1 : PlainValue Tiny) (seat : ℕ) (e1 : Selects seat b b1) where
   all_put w k h = subst (λ (z : PlainValue Tiny). IsAllPut (wide z.0) (selected z)) (sym e1) (w, h.0, pending (k + 1) b.0.width, h.1, h.2, refl)
 
 -- steps counted
-pub wrote_first : (width w k step : ℕ) (v : View) → step ≡ 0 → IsPutting w k 0 v → WritesAt width w k (step + 1) v
+wrote_first : (width w k step : ℕ) (v : View) → step ≡ 0 → IsPutting w k 0 v → WritesAt width w k (step + 1) v
 wrote_first width w k step v e h = record {
   before = λ z. absurd (omega arith);
   between = λ c is l. let same : 0 ≡ c = omega arith in subst (λ (z : ℕ). IsPutting w k z v) same h;
   behind = λ is. absurd (omega arith);
 }
 
-pub wrote_next : (width w k step c : ℕ) (v : View) → step ≡ c + 1 → c + 1 ≤ width → IsPutting w k (c + 1) v → WritesAt width w k (step + 1) v
+wrote_next : (width w k step c : ℕ) (v : View) → step ≡ c + 1 → c + 1 ≤ width → IsPutting w k (c + 1) v → WritesAt width w k (step + 1) v
 wrote_next width w k step c v e l h = record {
   before = λ z. absurd (omega arith);
   between = λ d is m. let same : c + 1 ≡ d = omega arith in subst (λ (z : ℕ). IsPutting w k z v) same h;
   behind = λ is. absurd (omega arith);
 }
 
-pub wrote_last : (width w k step : ℕ) (v : View) → step ≡ width + 1 → HasPut w (k + 1) v → WritesAt width w k (step + 1) v
+wrote_last : (width w k step : ℕ) (v : View) → step ≡ width + 1 → HasPut w (k + 1) v → WritesAt width w k (step + 1) v
 wrote_last width w k step v e h = record {
   before = λ z. absurd (omega arith);
   between = λ d is m. absurd (omega arith);
@@ -117,13 +117,13 @@ wrote_none width w k v h = record {
 }
 
 -- what stays, stays after one more call
-pub stays_still : (seat : ℕ) (b : PlainValue Tiny) → StaysBut seat b b
+stays_still : (seat : ℕ) (b : PlainValue Tiny) → StaysBut seat b b
 stays_still seat b = record { meaning = refl; others = λ j other. refl }
 
-pub stays_on : (seat : ℕ) (b b1 b2 : PlainValue Tiny) → StaysBut seat b b1 → StaysBut seat b1 b2 → StaysBut seat b b2
+stays_on : (seat : ℕ) (b b1 b2 : PlainValue Tiny) → StaysBut seat b b1 → StaysBut seat b1 b2 → StaysBut seat b b2
 stays_on seat b b1 b2 h h' = record { meaning = h'.meaning ∙ h.meaning; others = λ j other. h'.others j other ∙ h.others j other }
 
-pub leads_on : (seat w k : ℕ) (b b' : PlainValue Tiny) → IsLeaders w k b → StaysBut seat b b' → IsLeaders w k b'
+leads_on : (seat w k : ℕ) (b b' : PlainValue Tiny) → IsLeaders w k b → StaysBut seat b b' → IsLeaders w k b'
 leads_on seat w k b b' h stays = record {
   leads = subst (λ (t : Tiny). w < t.leaders) (sym stays.meaning) h.leads;
   below = subst (λ (t : Tiny). w < t.windows) (sym stays.meaning) h.below;
@@ -132,7 +132,7 @@ leads_on seat w k b b' h stays = record {
   small = h.small;
 }
 
-pub width_on : (seat width : ℕ) (b b' : PlainValue Tiny) → width ≡ b.0.width → StaysBut seat b b' → width ≡ b'.0.width
+width_on : (seat width : ℕ) (b b' : PlainValue Tiny) → width ≡ b.0.width → StaysBut seat b b' → width ≡ b'.0.width
 width_on seat width b b' e stays = e ∙ ap (λ (t : Tiny). t.width) (sym stays.meaning)
 
 -- the owner of a window of a fresh board has put nothing

@@ -8,6 +8,7 @@ use lib.ListN.{get_elem?}
 use mathlib.Core.Logic.{dite}
 use native.Mathlib.Decide.{ℕ_discrete}
 use Rattle.atomic_table.specs.Table.{State, Me, step, keeps, Allows}
+use Rattle.base_words.proofs.FirstAnswers.{same_some}
 use Rattle.window_words.specs.Views.{begun, last_of, longer, accept, ended, is_whole, stamp_of, with_reading, with_accepted}
 use Rattle.window_words.specs.Conditions.{AcceptedBelow, AcceptedOwn, HasClosed, IsBehindOwn, OwnStamp}
 use Rattle.window_words.specs.Rule.{start, stamp, HasRead, Account, Knows, Windows}
@@ -26,9 +27,6 @@ use Rattle.window_words.proofs.Keeping.{after_load}
 abbrev pub some_or : {A : Type 0} → A → Option A → A
 some_or d None = d
 some_or d (Some x) = x
-
-pub same_some : {A : Type 0} (x y : A) → Some x ≡ Some y → x ≡ y
-same_some x y e = ap (some_or x) e
 
 -- lists of numbers are the same where their lengths and their items are
 same_items : (xs ys : List ℕ) → length xs ≡ length ys → ((i : ℕ) → i < length xs → get_or xs i 0 ≡ get_or ys i 0) → xs ≡ ys
@@ -154,7 +152,7 @@ module _ {M : Type 0} (E : M → ℕ → ℕ → List ℕ) (W : M → ℕ → �
         after_load (E of) (W of) (C of) (Ld of) (L of) of s r p id me.1 me.0 v at same_owned (λ m e. r.same id me.0 m at e)
             (λ j d e. subst (λ (o : Option Reading). All (HasClosed (ended (Ld of) n me.0.view o)) d.view.owned) (sym is) (closed j d e))
             (subst (λ (o : Option Reading). K s.words r.hub r.dealt r.owner id (ended (Ld of) n me.0.view o)) (sym is) (knows_after_end s.words r.hub r.dealt r.owner id n me.0.view q whole now k)),
-        λ of' q' e is'. let same : of ≡ of' = sym (r.same id me.0 of' at e) in let one : q ≡ q' = same_some q q' (sym is ∙ is') in
+        λ of' q' e is'. let same : of ≡ of' = sym (r.same id me.0 of' at e) in let one : q ≡ q' = same_some (sym is ∙ is') in
             subst (λ (z : M × Reading). Gains (Ld z.0) (End z.1.window) n me (v, me.1) × IsEntry E W L z.0 n z.1 × IsBehindOwn (Ld z.0) me.0.view z.1.window n) (λ i. (same i, one i)) (
               refl,
               λ k' pos first last. (omega arith, λ full. same_items q.words (E of q.window k') (full ∙ sym (fits q.window k' known.0 pos (omega arith))) (λ i l. known.3 k' pos first (sym last ∙ now) i l)),

@@ -9,7 +9,7 @@ start_above_zero wide zero = omega arith
 start_above_zero wide (suc w) = let a = start_above_zero wide w in omega arith
 
 -- windows lie one behind the other
-pub ends_before : (wide : ℕ → ℕ) (w w' : ℕ) → w < w' → start wide w + wide w + 1 ≤ start wide w'
+ends_before : (wide : ℕ → ℕ) (w w' : ℕ) → w < w' → start wide w + wide w + 1 ≤ start wide w'
 ends_before wide w zero h = absurd (omega arith)
 ends_before wide w (suc w') h = dite (ℕ_discrete w w')
     (λ e. subst (λ (z : ℕ). start wide w + wide w + 1 ≤ start wide z + wide z + 1) e (omega arith))

@@ -1,5 +1,4 @@
 pub mod Conditions
-pub mod Rooms
 pub mod Rule
 pub mod Steps
 pub mod Views

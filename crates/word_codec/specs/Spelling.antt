@@ -14,11 +14,11 @@ abbrev pub low_of : ℤ → ℕ
 low_of z = bits_of z % 2 ^ 64
 
 -- a value of a nonleaf column is at most this far from 0
-abbrev pub most_value : ℕ
-most_value = 1000000000
+abbrev pub max_value : ℕ
+max_value = 1000000000
 
 abbrev pub IsValue : ℤ → Type 0
-IsValue x = (neg_ℤ (pos most_value) ≤ℤ x) × (x ≤ℤ pos most_value)
+IsValue x = (neg_ℤ (pos max_value) ≤ℤ x) × (x ≤ℤ pos max_value)
 
 -- a multiplier and a value
 abbrev pub cell_words : ℤ → ℤ → List ℕ

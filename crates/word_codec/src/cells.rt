@@ -4,7 +4,7 @@ ghost use Rattle.word_codec.specs.Spelling.{cell_words, AreCellWords, IsFirstOff
 use crate::halves::{NotCanonical, high, joined, low};
 
 /// How far from 0 the value of a nonleaf column may be.
-const MOST_VALUE: i64 = 1_000_000_000;
+const MAX_VALUE: i64 = 1_000_000_000;
 
 /// A multiplier and a value of one nonleaf column in one scenario.
 #[derive(Clone, Copy, PartialEq, Debug, Drop)]
@@ -17,7 +17,7 @@ pub struct Cell {
 fn is_value(x: i64) -> bool
     ensures { IsTrue result ↔ IsValue x }
 {
-    -MOST_VALUE <= x && x <= MOST_VALUE
+    -MAX_VALUE <= x && x <= MAX_VALUE
 }
 
 /// A word of a multiplier and a value: the multiplier's high and low bits, then

@@ -1,4 +1,4 @@
-use Rattle.std.proofs.Common.{arith, ◌≡◌, ◌≤ℤ◌, pos, FitsSigned}
+use Rattle.std.proofs.Common.{arith, ◌≡◌, ◌≤ℤ◌, pos}
 use Rattle.std.proofs.lemmas.Int.{ints, to_z-of_z}
 use Rattle.std.specs.Int.{w128}
 use Rattle.branch_bound.proofs.CurveCuts.{line_keeps, slack_self}

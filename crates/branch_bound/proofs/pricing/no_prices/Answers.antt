@@ -1,5 +1,4 @@
 use Rattle.std.proofs.Common.{arith, refl, ◌∙◌}
-use Rattle.boxed_problem.specs.Data.{problem_of}
 use Rattle.branch_bound.proofs.Unpriced.{unpriced_fit}
 use Rattle.branch_bound.proofs.pricing.no_prices.Goals as goal
 

@@ -11,4 +11,4 @@ returns-in-Err c =
     (c.loop-line.invariant ∙ one_on c.args.bytes.now c.args.lines.now c.loop-line.line-index c.line-item.result (before_in c.loop-line.state) c.loop-line-test.true c.line-item.is)
 
 pub returns : goal.returns
-returns c = endless c.args.bytes.now c.args.lines.now c.loop-line.line-index c.last_number.result (before_in c.loop-line.state) (omega arith) c.loop-line.invariant (c.last_number.ensures c.args.bytes.now)
+returns c = endless c.args.bytes.now c.args.lines.now c.loop-line.line-index c.last_number.result (before_in c.loop-line.state) (omega arith) c.loop-line.invariant c.last_number.ensures

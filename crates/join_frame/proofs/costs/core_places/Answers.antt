@@ -1,6 +1,4 @@
-use Rattle.std.proofs.Common.{arith, refl, ◌≡◌, ◌<◌, ◌∙◌, ap, get_or, length, not, [], ◌∷◌, List}
-use Rattle.std.proofs.lemmas.List.{get_or_default}
-use Rattle.dec_core.specs.declared.decimal.Decimal.{Decimal}
+use Rattle.std.proofs.Common.{arith, ◌≡◌, ◌<◌, ap, get_or, length, not, [], ◌∷◌, List}
 use Rattle.smps_words.specs.declared.core_data.CoreColumn.{CoreColumn}
 use Rattle.join_words.specs.Parts.{column_at, no_column, parts_of}
 use Rattle.join_words.specs.Powers.{stays}

@@ -2,13 +2,11 @@ use Rattle.std.proofs.Common.{◌≡◌, ◌∙◌, ap, length, map, List, FitsS
 use Rattle.std.proofs.lemmas.Int.{to_z-of_z}
 use Rattle.std.specs.Int.{w64}
 use Rattle.std.specs.List.{range_with_len}
-use Rattle.smps_words.specs.declared.core_data.CoreColumn.{CoreColumn}
 use Rattle.boxed_problem.specs.declared.parts.Side.{Side}
 use Rattle.stoch_lines.specs.declared.places.StochEntry.{StochEntry}
 use Rattle.join_words.specs.Boxes.{boxes_of}
 use Rattle.join_words.specs.Parts.{all_entries, parts_of}
 use Rattle.join_words.specs.Powers.{cost_places, row_places}
-use Rattle.join_words.specs.declared.frame.Frame.{Frame}
 use Rattle.join_frame.proofs.Framed.{framed}
 use Rattle.join_frame.proofs.making.frame.Goals as goal
 

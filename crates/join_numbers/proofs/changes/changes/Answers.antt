@@ -1,4 +1,4 @@
-use Rattle.std.proofs.Common.{arith, ◌≡◌, ◌<◌, get_or, length}
+use Rattle.std.proofs.Common.{arith, ◌<◌, get_or, length}
 use Rattle.std.specs.List.{Any, filter_map}
 use Rattle.std.proofs.lemmas.List.{get_or_default}
 use Rattle.std.proofs.lemmas.Result.{err_from_is_err_and}

@@ -1,4 +1,4 @@
-use Rattle.std.proofs.Common.{arith, refl, ◌≡◌, ◌<◌, length, map}
+use Rattle.std.proofs.Common.{arith, refl, ◌<◌, length, map}
 use Rattle.std.specs.List.{Any}
 use Rattle.std.proofs.lemmas.Result.{err_from_is_err_and}
 use Rattle.join_words.specs.Parts.{parts_of}

@@ -3,7 +3,7 @@ use Rattle.std.proofs.lemmas.Int.{to_z-of_z}
 use Rattle.std.specs.Int.{w128}
 use Rattle.base_words.specs.Sums.{sum_below}
 use Rattle.sp_model.specs.Problems.{scenarios}
-use Rattle.plan_calls.proofs.PlanValues.{cost_fits, cost_next, point_value}
+use Rattle.plan_calls.proofs.PlanValues.{values_fit, cost_next, point_value}
 use Rattle.plan_calls.proofs.costs.cost.Goals as goal
 
 pub value-requires-clause-inside : goal.value-requires-clause-inside
@@ -22,7 +22,7 @@ plus-sum-requires c =
     let fv : FitsSigned w128 c.value.result = search rules in
     let own = rw c.point.ensures at c.value.ensures in
     let next = cost_next (point_value run plan) (to_z w128 c.loop-scenario.sum-bits) c.value.result k c.loop-scenario.invariant own in
-    simp to_z-of_z (rw next (cost_fits run plan (k + 1) c.requires (omega (arith, there))))
+    simp to_z-of_z (rw next (values_fit run plan (k + 1) c.requires (omega (arith, there))))
 
 pub loop-scenario-preserved : goal.loop-scenario-preserved
 loop-scenario-preserved c =

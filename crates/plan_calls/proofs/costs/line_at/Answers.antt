@@ -2,7 +2,8 @@ use Rattle.std.proofs.Common.{rules, sym, ap, ◌∙◌, ◌≡◌, ◌*ℤ◌, 
 use Rattle.std.proofs.lemmas.Int.{to_z-of_z}
 use Rattle.std.specs.Int.{w128}
 use Rattle.sp_model.specs.Problems.{factor_of}
-use Rattle.plan_calls.proofs.PlanValues.{line_fits, line_is}
+use Rattle.sp_model.proofs.DataFacts.{cost_fits}
+use Rattle.plan_calls.proofs.PlanValues.{line_is}
 use Rattle.plan_calls.proofs.costs.line_at.Goals as goal
 
 pub times-requires : goal.times-requires
@@ -10,7 +11,7 @@ times-requires c =
     let run = c.args.run.now in
     let ff : FitsSigned w128 c.factor.result = search rules in
     let fc : FitsSigned w128 c.cost_at.result = search rules in
-    simp to_z-of_z (rw (c.factor.ensures, c.cost_at.ensures) (line_fits run c.args.scenario c.args.column c.requires.scenario c.requires.column))
+    simp to_z-of_z (rw (c.factor.ensures, c.cost_at.ensures) (cost_fits run c.args.scenario c.args.column c.requires.scenario c.requires.column))
 
 pub returns : goal.returns
 returns c =

@@ -3,9 +3,9 @@ use Rattle.std.proofs.lemmas.Int.{to_z-of_z}
 use Rattle.std.specs.Int.{w128}
 use Rattle.base_words.specs.Sums.{size_below}
 use Rattle.capped_num.specs.Capped.{capped}
+use Rattle.capped_num.proofs.Capping.{product_of_capped}
 use Rattle.sp_model.specs.Changes.{all_data}
 use Rattle.sp_model.specs.Reaching.{box_reach, cost_reach}
-use Rattle.reach_core.proofs.Capped.{product_capped}
 use Rattle.reach_core.proofs.Costs.{costs_capped, tops_long}
 use Rattle.reach_core.proofs.reaching.line_reach.Goals as goal
 
@@ -26,4 +26,4 @@ returns c =
     let total_is : c.size-3.result ≡ total = simp to_z-of_z at c.size-3.ensures.size in
     let costs_is : c.capped_sum-costs.result ≡ capped costs = c.capped_sum-costs.ensures ∙ costs_capped p c.args.tops.now c.size.result c.cost_sum.result c.requires constant_is c.cost_sum.ensures in
     let factor_is : c.capped_product.result ≡ capped (scale * total) = c.capped_product.ensures ∙ (ap (λ n. capped (n * c.size-3.result)) scale_is ∙ ap (λ n. capped (scale * n)) total_is) in
-    c.capped_product-2.ensures ∙ product_capped (scale * total) costs c.capped_product.result c.capped_sum-costs.result factor_is costs_is
+    c.capped_product-2.ensures ∙ product_of_capped (scale * total) costs c.capped_product.result c.capped_sum-costs.result factor_is costs_is

@@ -1,9 +1,8 @@
-use Rattle.std.proofs.Common.{subst, sym, ◌∙◌, ◌≡◌, FitsSigned, rules}
+use Rattle.std.proofs.Common.{subst, ◌∙◌, ◌≡◌, FitsSigned, rules}
 use Rattle.std.proofs.lemmas.Int.{to_z-of_z}
 use Rattle.std.specs.Int.{w128}
 use Rattle.wide_num.specs.Quotients.{IsCeiling}
 use Rattle.safe_bound.specs.PriceBound.{price_total}
-use Rattle.safe_bound.specs.ReducedOf.{reduced_total}
 use Rattle.safe_bound.proofs.ReducedLaws.{reduced_total-is}
 use Rattle.safe_bound.proofs.reducing.bound_from.Goals as goal
 

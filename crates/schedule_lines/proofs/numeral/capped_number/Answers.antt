@@ -1,5 +1,5 @@
 use Rattle.std.proofs.Common.{arith}
-use Rattle.schedule_lines.proofs.Numerals.{digits_more}
+use Rattle.dec_core.proofs.DigitLaws.{digits_more}
 use Rattle.schedule_lines.proofs.numeral.capped_number.Goals as goal
 
 pub loop-byte-preserved : goal.loop-byte-preserved

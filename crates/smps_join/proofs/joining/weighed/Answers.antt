@@ -2,6 +2,7 @@ use Rattle.std.proofs.Common.{rules, arith, sym, subst, ap, ◌≡◌, ◌≤◌
 use Rattle.std.proofs.lemmas.Int.{to_z-of_z}
 use Rattle.std.specs.Int.{w128}
 use Rattle.std.specs.List.{All}
+use Rattle.base_words.proofs.NumberTests.{not_less_from_test}
 use Rattle.smps_stoch.specs.StochFacts.{IsPlace}
 use Rattle.stoch_lines.specs.declared.places.StochEntry.{StochEntry}
 use Rattle.scenario_lists.specs.ScenarioList.{count_of, scenarios_of}
@@ -17,7 +18,7 @@ use Rattle.smps_join.specs.Weights.{weight_sum}
 use Rattle.smps_join.proofs.FrameIs.{frame_facts}
 use Rattle.smps_join.proofs.Living.{all_live, long_live, program_live, weights_live}
 use Rattle.smps_join.proofs.Refusing.{large_reach, large_total, memory_refused, wide_refused}
-use Rattle.smps_join.proofs.RunIs.{at_most, listed_is, program_is, total_is}
+use Rattle.smps_join.proofs.RunIs.{listed_is, program_is, total_is}
 use Rattle.smps_join.proofs.joining.weighed.Goals as goal
 
 pub returns-in_default : goal.returns-in_default
@@ -37,7 +38,7 @@ program-requires-clause-all c = ap length c.requires.listed ∙ long_live (live_
 
 pub program-requires-clause-few : goal.program-requires-clause-few
 program-requires-clause-few c =
-    let few = at_most 4096 (count_of c.args.stoch.now) c.requires.few in
+    let few = not_less_from_test 4096 (count_of c.args.stoch.now) c.requires.few in
     omega (arith, few, ap length c.requires.listed, long_live (live_of c.args.frame.now.sides) c.args.stoch.now)
 
 pub reached-requires-clause-program : goal.reached-requires-clause-program

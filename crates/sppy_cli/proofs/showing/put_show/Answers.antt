@@ -1,6 +1,6 @@
 use Rattle.std.proofs.Common.{sym, subst, ◌++◌, List, ℕ}
 use Rattle.std.specs.List.{concat}
-use Rattle.sppy_cli.specs.Texts.{CutsText, PutsText, places_of}
+use Rattle.sppy_cli.specs.Texts.{CutsText, PutsText, row_places_of}
 use Rattle.sppy_cli.proofs.TextLaws.{cut_after, cut_before, put_after, show_is}
 use Rattle.sppy_cli.proofs.showing.put_show.Goals as goal
 use Rattle.text_lines.specs.ShowLines.{all_scenario_lines, column_lines_of, row_lines_of}
@@ -9,7 +9,7 @@ pub returns-clause-text : goal.returns-clause-text
 returns-clause-text g c =
     let i = c.args.instance.now in
     let columns = concat (column_lines_of i.triple.core i.run) in
-    let rows = concat (row_lines_of i.triple.core i.run (places_of i)) in
+    let rows = concat (row_lines_of i.triple.core i.run (row_places_of i)) in
     let scenarios = concat (all_scenario_lines i.triple.core i.run) in
     let old = g.K.Sink.written c.args.out.now in
     let first = g.K.Sink.written c.put_columns.new.out in
@@ -23,7 +23,7 @@ pub returns-in-Err-clause-text : goal.returns-in-Err-clause-text
 returns-in-Err-clause-text g c =
     let i = c.args.instance.now in
     let columns = concat (column_lines_of i.triple.core i.run) in
-    let rows = concat (row_lines_of i.triple.core i.run (places_of i)) in
+    let rows = concat (row_lines_of i.triple.core i.run (row_places_of i)) in
     let scenarios = concat (all_scenario_lines i.triple.core i.run) in
     let old = g.K.Sink.written c.args.out.now in
     let first = g.K.Sink.written c.put_columns.new.out in
@@ -34,7 +34,7 @@ pub returns-in-Err-put_rows-clause-text : goal.returns-in-Err-put_rows-clause-te
 returns-in-Err-put_rows-clause-text g c =
     let i = c.args.instance.now in
     let columns = concat (column_lines_of i.triple.core i.run) in
-    let rows = concat (row_lines_of i.triple.core i.run (places_of i)) in
+    let rows = concat (row_lines_of i.triple.core i.run (row_places_of i)) in
     let scenarios = concat (all_scenario_lines i.triple.core i.run) in
     let old = g.K.Sink.written c.args.out.now in
     let first = g.K.Sink.written c.put_columns.new.out in
