@@ -18,6 +18,7 @@ use Rattle.window_words.specs.declared.views.View.{View}
 use Rattle.window_words.specs.declared.views.Known.{Known}
 use Rattle.window_words.specs.declared.views.Owned.{Owned}
 use Rattle.window_words.specs.declared.views.Pending.{Pending}
+use Rattle.window_words.proofs.Sharing.{none_accepted}
 use Rattle.window_words.proofs.Listed.{length_push, push_at, push_before}
 use Rattle.plain_board.specs.declared.seat.PlainSeat.{PlainSeat}
 use Rattle.plain_board.specs.Tracks.{items_of}
@@ -33,11 +34,6 @@ same_all : {A : Type 0} (d : A) (n i : ℕ) → get_or (replicate n d) i d ≡ d
 same_all d zero i = refl
 same_all d (suc n) zero = refl
 same_all d (suc n) (suc i) = same_all d n i
-
-empties : (P : ℕ → Type 0) (n i : ℕ) → All P (get_or (replicate n []) i [])
-empties P zero i = All-nil P
-empties P (suc n) zero = All-nil P
-empties P (suc n) (suc i) = empties P n i
 
 -- what stands in the list of known views
 known_at : {M : Type 0} (of : M) (f : ℕ → View) (a n j : ℕ) (v : Known M) → get_elem? (map (known of) (map f (range_with_len a n))) j ≡ some v → (j < n) × (known of (f (a + j)) ≡ v)
@@ -57,7 +53,8 @@ module _ {M : Type 0} (entry : ℕ → ℕ → List ℕ) (wide : ℕ → ℕ) (c
     hubs = λ _. (refl, refl, sym (same_all nought (start wide count) 0));
     owns = All-nil (Account entry wide count ws (λ w. w + 1) 0 None);
     reads = tt;
-    accepted = λ w. empties (λ k. 2 * k ≤ stamp wide ws w) count w;
+    accepted = λ w. none_accepted (λ k. 2 * k ≤ stamp wide ws w) count w;
+    from_one = λ w. none_accepted (λ k. 1 ≤ k) count w;
   }
 
   owner_knows : (w : ℕ) → w < count → K (w + 1) (owner_view count w)
@@ -66,7 +63,8 @@ module _ {M : Type 0} (entry : ℕ → ℕ → List ℕ) (wide : ℕ → ℕ) (c
     owns = All-cons (Account entry wide count ws (λ w. w + 1) (w + 1) None) record { window = w; closed = [] } [] record { below = l; owned = refl; stamped = same_all nought (start wide count) (start wide w); part = tt }
         (All-nil (Account entry wide count ws (λ w. w + 1) (w + 1) None));
     reads = tt;
-    accepted = λ j. empties (λ k. 2 * k ≤ stamp wide ws j) count j;
+    accepted = λ j. none_accepted (λ k. 2 * k ≤ stamp wide ws j) count j;
+    from_one = λ j. none_accepted (λ k. 1 ≤ k) count j;
   }
 
   each_knows : (j : ℕ) (v : Known M) → get_elem? (map (known of) (fresh_views count)) j ≡ some v → (Some of ≡ v.of) × K j v.view × (v.view.accepted ≡ replicate count [])
@@ -89,7 +87,7 @@ module _ {M : Type 0} (entry : ℕ → ℕ → List ℕ) (wide : ℕ → ℕ) (c
     each = λ j v at. (each_knows j v at).1;
     following = λ w u past b l. let at_w = same_all nought (start wide count) (start wide w) in let at_u = same_all nought (start wide count) (start wide u) in omega arith;
     listed = λ i j v u at_v at_u k d l. let a : Owned = get_or u.view.owned k d in
-        subst (λ (z : List (List ℕ)). All (λ n. (1 ≤ n) × Contains a.closed n) (get_or z a.window [])) (sym (each_knows i v at_v).2) (empties (λ n. (1 ≤ n) × Contains a.closed n) count a.window);
+        subst (λ (z : List (List ℕ)). All (λ n. (1 ≤ n) × Contains a.closed n) (get_or z a.window [])) (sym (each_knows i v at_v).2) (none_accepted (λ n. (1 ≤ n) × Contains a.closed n) count a.window);
   }
 
 -- a fresh board has room and no entries

@@ -5,5 +5,6 @@ pub mod Tracks
 pub use Rattle.wide_num.specs.RoomContents
 pub use Rattle.window_words.specs.Conditions
 pub use Rattle.window_words.specs.Rule
+pub use Rattle.window_words.specs.Seating
 pub use Rattle.window_words.specs.Steps
 pub use Rattle.window_words.specs.Views

@@ -6,6 +6,7 @@ use Rattle.window_words.specs.Views.{after, entry_of, last_of, one}
 use Rattle.window_words.specs.Conditions.{AcceptedOwn, IsBehindOwn}
 use Rattle.window_words.specs.Rule.{start, stamp, word, Windows}
 use Rattle.window_words.specs.Steps.{known}
+pub use Rattle.window_words.specs.Seating.{no_view, hub_view, owner_view, fresh_views, TellsOwn}
 use Rattle.window_words.specs.declared.views.View.{View}
 use Rattle.window_words.specs.declared.views.Known.{Known}
 use Rattle.window_words.specs.declared.views.Pending.{Pending}
@@ -13,18 +14,6 @@ use Rattle.window_words.specs.declared.views.Call.{Call}
 use Rattle.window_words.specs.declared.views.Call.TheVariants.{Open, Put, Close, Begin, Read, End, Stop, Stopped}
 use Rattle.plain_board.specs.declared.seat.PlainSeat.{PlainSeat}
 use Rattle.plain_board.specs.Seats.{shown, own_window, put_count, read_count, IsRoomy}
-
--- a seat that knows nothing
-abbrev pub no_view : View
-no_view = record {
-  hub = false;
-  dealt = 0;
-  owned = [];
-  pending = None;
-  reading = None;
-  accepted = [];
-  stopped = 0;
-}
 
 -- the words and views as a table has them
 abbrev pub state : {M : Type 0} → M → List ℕ → List View → State ℕ (Known M)
@@ -61,17 +50,6 @@ PlainValue M = M × List ℕ × List View × ℕ
 
 abbrev pub selected : {M : Type 0} → PlainValue M → View
 selected b = slice_index_or b.2 b.3 no_view
-
--- what an answer tells of the windows that the seat itself owns
-abbrev pub TellsOwn : ℕ → Call → ℕ → View → Type 0
-TellsOwn leaders (Open k) n v = Unit {0}
-TellsOwn leaders (Put word) n v = Unit {0}
-TellsOwn leaders Close n v = Unit {0}
-TellsOwn leaders (Begin w) n v = AcceptedOwn v w
-TellsOwn leaders (Read w) n v = Unit {0}
-TellsOwn leaders (End w) n v = IsBehindOwn leaders v w n
-TellsOwn leaders (Stop last) n v = Unit {0}
-TellsOwn leaders Stopped n v = Unit {0}
 
 -- the whole board after a call with the answer n, and what the answer tells
 abbrev pub LeavesAll : {M : Type 0} → (M → ℕ) → (M → ℕ → ℕ) → PlainValue M → Call → ℕ → PlainValue M
@@ -111,33 +89,6 @@ pub record PlainRule {M : Type 0} (entry : M → ℕ → ℕ → List ℕ) (wide
   pub widest : ℕ
   pub wide_most : (w : ℕ) → w < count of → wide of w ≤ widest
   pub rooms : All (IsRoomy (lead of) (count of) widest (last of)) seats
-
--- what the hub's seat knows of a fresh board: all windows are handed out
-abbrev pub hub_view : ℕ → View
-hub_view count = record {
-  hub = true;
-  dealt = count;
-  owned = [];
-  pending = None;
-  reading = None;
-  accepted = replicate count [];
-  stopped = 0;
-}
-
--- what the owner of window w knows of a fresh board
-abbrev pub owner_view : ℕ → ℕ → View
-owner_view count w = record {
-  hub = false;
-  dealt = 0;
-  owned = one w [];
-  pending = None;
-  reading = None;
-  accepted = replicate count [];
-  stopped = 0;
-}
-
-abbrev pub fresh_views : ℕ → List View
-fresh_views count = hub_view count ∷ map (owner_view count) (range_with_len 0 count)
 
 -- a fresh board: all words are 0, and the hub's seat is selected
 abbrev pub fresh_board : {M : Type 0} → (M → ℕ → ℕ) → (M → ℕ) → M → PlainValue M

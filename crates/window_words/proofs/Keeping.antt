@@ -104,6 +104,7 @@ module _ {M : Type 0} (entry : ℕ → ℕ → List ℕ) (wide : ℕ → ℕ) (c
       owns = All-weaker (Acc r.dealt s.words r.owner j v.pending) (Acc r.dealt ws r.owner j v.pending) (other_account_lasts j other v.pending) v.owned k.owns;
       reads = reading_lasts (stamp wide s.words) (stamp wide ws) (stamps_rise up) v.reading k.reads;
       accepted = λ w'. accepted_lasts (stamp wide s.words) (stamp wide ws) (stamps_rise up) w' _ (k.accepted w');
+      from_one = k.from_one;
     }
 
     -- the rule holds again where the new stamp, words and account of that window are right
@@ -131,6 +132,7 @@ module _ {M : Type 0} (entry : ℕ → ℕ → List ℕ) (wide : ℕ → ℕ) (c
         owns = All-cons (Acc r.dealt ws r.owner me o) record { window = w; closed = closed } [] record { below = below; owned = own; stamped = stamped; part = part } (All-nil (Acc r.dealt ws r.owner me o));
         reads = reading_lasts (stamp wide s.words) (stamp wide ws) (stamps_rise up) v.view.reading k.reads;
         accepted = λ w'. accepted_lasts (stamp wide s.words) (stamp wide ws) (stamps_rise up) w' _ (k.accepted w');
+        from_one = k.from_one;
       } (λ j d other a. other_seat_knows up j d.view other (r.each j d a));
       following = λ w' u past b l. dite (ℕ_discrete w' w)
           (λ e. let at_u = other_stamp_stays wide s.words w x p n here in_window u (λ h. omega arith) in let f = behind (omega arith) u l in

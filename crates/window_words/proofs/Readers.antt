@@ -70,7 +70,7 @@ module _ {M : Type 0} (E : M → ℕ → ℕ → List ℕ) (W : M → ℕ → �
         keeps,
         tt,
         after_load (E of) (W of) (C of) (Ld of) (L of) of s r p id me.1 me.0 v at refl (λ m e. r.same id me.0 m at e) (λ j d e. r.listed id j me.0 d at e)
-            record { hubs = k.hubs; owns = k.owns; reads = (low, omega arith, omega arith, λ k' pos e is i l. absurd (omega arith)); accepted = k.accepted },
+            record { hubs = k.hubs; owns = k.owns; reads = (low, omega arith, omega arith, λ k' pos e is i l. absurd (omega arith)); accepted = k.accepted; from_one = k.from_one },
         λ of' w' e there. let same : of ≡ of' = sym (r.same id me.0 of' at e) in
             let one : w ≡ w' = start_tells (W of) w w' (sym place ∙ (there ∙ ap (λ (z : M). start (W z) w') (sym same))) in
             subst (λ (z : ℕ). Gains 0 (Begin z) n me (v, me.1) × AcceptedBelow me.0.view z n × OwnStamp me.0.view z n × AcceptedOwn me.0.view z) one (refl, below, own, listed),
@@ -94,6 +94,7 @@ module _ {M : Type 0} (E : M → ℕ → ℕ → List ℕ) (W : M → ℕ → �
               (λ other. push_before q.words n i (omega arith) ∙ known.3 k' pos e now i (omega arith)),
         );
         accepted = k.accepted;
+        from_one = k.from_one;
       } in (
         v,
         keeps,
@@ -103,15 +104,16 @@ module _ {M : Type 0} (E : M → ℕ → ℕ → List ℕ) (W : M → ℕ → �
         refl,
       )
 
-  knows_after_end : (words : List ℕ) (hub dealt : ℕ) (owner : ℕ → ℕ) (seat n : ℕ) (v : View) (q : Reading) (b : Bool) → n ≡ stamp (W of) words q.window → K words hub dealt owner seat v
+  knows_after_end : (words : List ℕ) (hub dealt : ℕ) (owner : ℕ → ℕ) (seat n : ℕ) (v : View) (q : Reading) (b : Bool) → is_whole q.first n ≡ b → n ≡ stamp (W of) words q.window → K words hub dealt owner seat v
       → K words hub dealt owner seat (if b then with_accepted v (accept (Ld of) q.window (n / 2) v.accepted) else with_reading v None)
-  knows_after_end words hub dealt owner seat n v q true now k = record {
+  knows_after_end words hub dealt owner seat n v q true is now k = record {
     hubs = k.hubs;
     owns = k.owns;
     reads = tt;
     accepted = each_accept (λ w j. 2 * j ≤ stamp (W of) words w) (Ld of) q.window (n / 2) v.accepted k.accepted (omega arith);
+    from_one = each_accept (λ w j. 1 ≤ j) (Ld of) q.window (n / 2) v.accepted k.from_one (whole_tells q.first n is).2;
   }
-  knows_after_end words hub dealt owner seat n v q false now k = record { hubs = k.hubs; owns = k.owns; reads = tt; accepted = k.accepted }
+  knows_after_end words hub dealt owner seat n v q false is now k = record { hubs = k.hubs; owns = k.owns; reads = tt; accepted = k.accepted; from_one = k.from_one }
 
   -- an entry whose even stamp stands in a window is the last that the window's owner closed
   closed_there : (words : List ℕ) (dealt : ℕ) (owner : ℕ → ℕ) (j k : ℕ) (o : Option Pending) (a : Owned) → Acc dealt words owner j o a → 1 ≤ k → stamp (W of) words a.window ≡ 2 * k → Contains a.closed k
@@ -151,7 +153,7 @@ module _ {M : Type 0} (E : M → ℕ → ℕ → List ℕ) (W : M → ℕ → �
         tt,
         after_load (E of) (W of) (C of) (Ld of) (L of) of s r p id me.1 me.0 v at same_owned (λ m e. r.same id me.0 m at e)
             (λ j d e. subst (λ (o : Option Reading). All (HasClosed (ended (Ld of) n me.0.view o)) d.view.owned) (sym is) (closed j d e))
-            (subst (λ (o : Option Reading). K s.words r.hub r.dealt r.owner id (ended (Ld of) n me.0.view o)) (sym is) (knows_after_end s.words r.hub r.dealt r.owner id n me.0.view q whole now k)),
+            (subst (λ (o : Option Reading). K s.words r.hub r.dealt r.owner id (ended (Ld of) n me.0.view o)) (sym is) (knows_after_end s.words r.hub r.dealt r.owner id n me.0.view q whole refl now k)),
         λ of' q' e is'. let same : of ≡ of' = sym (r.same id me.0 of' at e) in let one : q ≡ q' = same_some (sym is ∙ is') in
             subst (λ (z : M × Reading). Gains (Ld z.0) (End z.1.window) n me (v, me.1) × IsEntry E W L z.0 n z.1 × IsBehindOwn (Ld z.0) me.0.view z.1.window n) (λ i. (same i, one i)) (
               refl,

@@ -41,6 +41,7 @@ module _ {M : Type 0} (entry : ℕ → ℕ → List ℕ) (wide : ℕ → ℕ) (c
         owns = All-weaker (Acc dealt ws owner seat v.pending) (Acc dealt (set ws 0 n) owner seat v.pending) (account_apart ws n dealt owner seat v.pending) v.owned k.owns;
         reads = reading_lasts entry wide count lead most of (stamp wide ws) (stamp wide (set ws 0 n)) up v.reading k.reads;
         accepted = λ w. accepted_lasts entry wide count lead most of (stamp wide ws) (stamp wide (set ws 0 n)) up w (get_or v.accepted w []) (k.accepted w);
+        from_one = k.from_one;
       }
 
   pub stopping_keeps : (slots id n p : ℕ) (me : Me ℕ (Known M)) → me.0.view.hub ≡ true → p ≡ 0 → Allows Rule slots id me p (λ _. n) (λ _. stops (step slots p n 0 none) me n)

@@ -1,4 +1,5 @@
 pub mod Conditions
 pub mod Rule
+pub mod Seating
 pub mod Steps
 pub mod Views

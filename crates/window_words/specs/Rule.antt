@@ -54,6 +54,7 @@ pub record Knows (entry : ℕ → ℕ → List ℕ) (wide : ℕ → ℕ) (count 
   pub owns : All (Account entry wide dealt words owner seat v.pending) v.owned
   pub reads : HasRead entry wide count (stamp wide words) v.reading
   pub accepted : (w : ℕ) → All (λ k. 2 * k ≤ stamp wide words w) (slice_index_or v.accepted w [])
+  pub from_one : (w : ℕ) → All (λ k. 1 ≤ k) (slice_index_or v.accepted w [])
 
 -- no other window is ahead of a leader's: an entry is opened there only after every leader closed
 -- one that isn't older

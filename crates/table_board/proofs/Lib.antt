@@ -1,0 +1,2 @@
+mod Sitting
+mod Tabling

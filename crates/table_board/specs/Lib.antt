@@ -1,0 +1,7 @@
+pub mod Seats
+pub mod Tables
+pub use Rattle.window_words.specs.Conditions
+pub use Rattle.window_words.specs.Rule
+pub use Rattle.window_words.specs.Seating
+pub use Rattle.window_words.specs.Steps
+pub use Rattle.window_words.specs.Views
