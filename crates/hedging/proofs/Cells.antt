@@ -1,6 +1,6 @@
 -- The places of a table's cells, row after row, and what stands there after a cell has gained.
 
-use Rattle.std.proofs.Common.{arith, refl, sym, ap, ◌∙◌, ◌≡◌, ℕ, zero, suc, ◌+◌, ◌*◌, ◌-◌, ◌<◌, ◌==◌, ◌&&◌, Bool, true, false, cond, List, [], ◌∷◌, ◌++◌, map, length, set, take, drop, ℤ, pos, ◌+ℤ◌, if◌then◌else◌, inl, inr, ◌⊎◌}
+use Rattle.std.proofs.Common.{arith, refl, sym, ap, ◌∙◌, ◌≡◌, ℕ, zero, suc, ◌+◌, ◌*◌, ◌-◌, ◌<◌, ◌==◌, ◌&&◌, Bool, true, false, List, [], ◌∷◌, ◌++◌, map, length, set, take, drop, ℤ, pos, ◌+ℤ◌, if◌then◌else◌, inl, inr, ◌⊎◌}
 use Rattle.std.proofs.lemmas.Bool.{cases_eq, cases_lt}
 use Rattle.std.proofs.lemmas.Int.{ints}
 use Rattle.std.proofs.lemmas.List.{get_or_default, get_or-drop, get_or-set_other, get_or-set_same, get_or-take, length-drop, length-take-le, take-append-drop}
@@ -11,6 +11,7 @@ use Rattle.base_words.specs.Gathered.{gathered}
 use Rattle.base_words.specs.Sums.{number_at}
 use Rattle.base_words.proofs.Made.{is_made}
 use Rattle.base_words.proofs.NumberTests.{test_from_same}
+use Rattle.tree_core.proofs.Listing.{ones}
 
 -- the place of a cell is below that of each cell of a later row
 earlier_row : (m a b c d : ℕ) → a < c → b < m → a * m + b < c * m + d
@@ -28,10 +29,6 @@ same_cell m a b c d h k e = elim (cases_lt a c) [
   where
     same_row : a ≡ c → (a ≡ c) × (b ≡ d)
     same_row r = (r, omega (arith, ap (λ i. i * m) r, e))
-
--- 1 where a test holds, else 0
-abbrev pub ones : Bool → ℕ
-ones b = cond b 1 0
 
 -- what a number gains where that is due
 pub joined : (a b c : Bool) (g x y z : ℤ) → y ≡ x +ℤ (if a then g else pos 0) → z ≡ y +ℤ (if b then g else pos 0) → ones c ≡ ones a + ones b → z ≡ x +ℤ (if c then g else pos 0)

@@ -21,13 +21,15 @@ use Rattle.sp_model.specs.declared.run.Run.{Run}
 use Rattle.put_words.specs.Hedged.{pull}
 use Rattle.put_words.specs.NextMultipliers.{moved}
 use Rattle.put_words.specs.NodeSums.{AreInside, node_for, value_at}
+use Rattle.put_words.proofs.Bundles.{found}
 use Rattle.put_words.proofs.Rises.{move_abs, node_below}
 use Rattle.hedging.specs.Tables.{ArePulls, gain_of, HaveGained, IsTable}
 use Rattle.hedging.specs.declared.tables.Gain.{Gain}
 use Rattle.hedging.specs.declared.tables.Gain.TheVariants.{Move, Pull}
-use Rattle.hedging.proofs.Cells.{cell_gains, joined, ones, table_is}
+use Rattle.tree_core.proofs.Listing.{ones}
+use Rattle.hedging.proofs.Cells.{cell_gains, joined, table_is}
 use Rattle.hedging.proofs.Fitting.{pull_small}
-use Rattle.hedging.proofs.Places.{found, place_test}
+use Rattle.hedging.proofs.Places.{place_test}
 
 -- cells that gain in two parts
 pub gained_on : (run : Run) (a b c : ℕ → ℕ → Bool) (gain : ℕ → ℕ → ℤ) (old mid new : List ℤ) → HaveGained run a gain old mid → HaveGained run b gain mid new → ((s j : ℕ) → s < scenarios run → j < run.nonleaf → ones (c s j) ≡ ones (a s j) + ones (b s j)) → HaveGained run c gain old new
@@ -158,7 +160,7 @@ pub member_node : (run : Run) (n i j d : ℕ) → n < length run.program.tree.no
 member_node run n i j d l h stage k m =
     let s = get_or (scenarios_at run.program.tree.nodes n) i d in
     let of_stage : ((node_at run n).stage == stage_of run j) ≡ true = turned_test (stage_of run j) (node_at run n).stage stage in
-    let held : holds s (stage_of run j) (node_at run n) ≡ true = ap (λ b. b && list_any (λ u. u == s) (scenarios_at run.program.tree.nodes n)) of_stage ∙ found (scenarios_at run.program.tree.nodes n) i d k in
+    let held : holds s (stage_of run j) (node_at run n) ≡ true = ap (λ b. b && list_any (λ u. u == s) (scenarios_at run.program.tree.nodes n)) of_stage ∙ found (scenarios_at run.program.tree.nodes n) (get_or (scenarios_at run.program.tree.nodes n) i d) i d k refl in
     sym (same_from_test (node_for run s j) n (node_test run n s j l m h ∙ held))
 
 -- a cell of a table of zeros

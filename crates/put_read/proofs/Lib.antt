@@ -1,4 +1,4 @@
 mod Accepting
 mod CellWords
-mod Putting
+pub mod Putting
 mod Taking

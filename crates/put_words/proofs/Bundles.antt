@@ -1,14 +1,12 @@
 -- The node of a scenario at a stage is the only one there that has it.
 
-use Rattle.std.proofs.Common.{arith, refl, sym, ap, ◌≡◌, ℕ, zero, suc, ◌<◌, ◌≤◌, ◌==◌, ◌||◌, Bool, true, false, cond, List, [], ◌∷◌, length, get_or}
+use Rattle.std.proofs.Common.{arith, refl, sym, ap, ◌≡◌, ℕ, zero, suc, ◌<◌, ◌==◌, ◌||◌, Bool, true, false, List, [], ◌∷◌, length, get_or}
 use Rattle.std.proofs.lemmas.List.Elements.{All-contains}
-use Rattle.std.proofs.lemmas.List.Sums.{position_or_len_is, sum_by-append}
-use Rattle.std.specs.List.{All, Contains, count_by, flat_map, list_any}
-use Rattle.base_words.proofs.Comparisons.{both, both_left, both_right}
+use Rattle.std.specs.List.{All, Contains, list_any}
+use Rattle.base_words.proofs.Comparisons.{both}
 use Rattle.base_words.proofs.NumberTests.{test_from_same}
-use Rattle.tree_core.specs.Nodes.{holds, members, no_node, node_place, nodes_of, scenarios_at, StandsOnce}
-use Rattle.tree_core.specs.declared.tree.Node.{Node}
-use Rattle.tree_core.proofs.Listing.{any_counted}
+use Rattle.tree_core.specs.Nodes.{holds, no_node, scenarios_at, StandsOnce}
+use Rattle.tree_core.proofs.OncePlaces.{once_place}
 use Rattle.run_calls.specs.MultiplierTests.{node_at}
 use Rattle.sp_model.specs.Plans.{no_column, stage_of}
 use Rattle.sp_model.specs.Problems.{scenarios}
@@ -16,52 +14,8 @@ use Rattle.sp_model.specs.declared.run.Run.{Run}
 use Rattle.run_calls.proofs.MostBounds.{early_column}
 use Rattle.put_words.specs.NodeSums.{bundle, node_for}
 
--- a scenario that is found in a list is counted there
-counted : (xs : List ℕ) (s : ℕ) → list_any (λ u. u == s) xs ≡ true → 1 ≤ count_by (λ u. u == s) xs
-counted xs s h = by_count (count_by (λ u. u == s) xs) refl
-  where
-    by_count : (n : ℕ) → count_by (λ u. u == s) xs ≡ n → 1 ≤ count_by (λ u. u == s) xs
-    by_count zero e = absurd (let f = any_counted (λ u. u == s) xs false e in cc)
-    by_count (suc n) e = omega arith
-
--- a node that has the scenario at the stage counts it among the members of the stage
-held_count : (nodes : List Node) (t s i : ℕ) (d : Node) → i < length nodes → holds s t (get_or nodes i d) ≡ true → 1 ≤ count_by (λ u. u == s) (members nodes t)
-held_count [] t s i d l h = absurd (omega arith)
-held_count (n ∷ nodes) t s zero d l h = by_stage (n.stage == t) refl
-  where
-    by_stage : (b : Bool) → (n.stage == t) ≡ b → 1 ≤ count_by (λ u. u == s) (flat_map (λ (m : Node). m.scenarios) (cond b (n ∷ nodes_of nodes t) (nodes_of nodes t)))
-    by_stage true e = omega (arith, sum_by-append (λ u. cond (u == s) 1 0) n.scenarios (members nodes t), counted n.scenarios s (both_right (n.stage == t) (list_any (λ u. u == s) n.scenarios) h))
-    by_stage false e = absurd (let f = both_left (n.stage == t) (list_any (λ u. u == s) n.scenarios) h in cc)
-held_count (n ∷ nodes) t s (suc i) d l h = by_stage (n.stage == t) (held_count nodes t s i d (omega arith) h)
-  where
-    by_stage : (b : Bool) → 1 ≤ count_by (λ u. u == s) (members nodes t) → 1 ≤ count_by (λ u. u == s) (flat_map (λ (m : Node). m.scenarios) (cond b (n ∷ nodes_of nodes t) (nodes_of nodes t)))
-    by_stage true r = omega (arith, sum_by-append (λ u. cond (u == s) 1 0) n.scenarios (members nodes t), r)
-    by_stage false r = r
-
--- two nodes that have it count it twice
-twice_counted : (nodes : List Node) (t s k i : ℕ) (d : Node) → k < i → i < length nodes → holds s t (get_or nodes k d) ≡ true → holds s t (get_or nodes i d) ≡ true → 2 ≤ count_by (λ u. u == s) (members nodes t)
-twice_counted nodes t s k zero d l h p q = absurd (omega arith)
-twice_counted [] t s k (suc i) d l h p q = absurd (omega arith)
-twice_counted (n ∷ nodes) t s zero (suc i) d l h p q = by_stage (n.stage == t) refl (held_count nodes t s i d (omega arith) q)
-  where
-    by_stage : (b : Bool) → (n.stage == t) ≡ b → 1 ≤ count_by (λ u. u == s) (members nodes t) → 2 ≤ count_by (λ u. u == s) (flat_map (λ (m : Node). m.scenarios) (cond b (n ∷ nodes_of nodes t) (nodes_of nodes t)))
-    by_stage true e r = omega (arith, sum_by-append (λ u. cond (u == s) 1 0) n.scenarios (members nodes t), counted n.scenarios s (both_right (n.stage == t) (list_any (λ u. u == s) n.scenarios) p), r)
-    by_stage false e r = absurd (let f = both_left (n.stage == t) (list_any (λ u. u == s) n.scenarios) p in cc)
-twice_counted (n ∷ nodes) t s (suc k) (suc i) d l h p q = by_stage (n.stage == t) (twice_counted nodes t s k i d (omega arith) (omega arith) p q)
-  where
-    by_stage : (b : Bool) → 2 ≤ count_by (λ u. u == s) (members nodes t) → 2 ≤ count_by (λ u. u == s) (flat_map (λ (m : Node). m.scenarios) (cond b (n ∷ nodes_of nodes t) (nodes_of nodes t)))
-    by_stage true r = omega (arith, sum_by-append (λ u. cond (u == s) 1 0) n.scenarios (members nodes t), r)
-    by_stage false r = r
-
--- the node of a scenario that stands once is any one that has it
-once_place : (nodes : List Node) (t s i : ℕ) (d : Node) → StandsOnce nodes t s → i < length nodes → holds s t (get_or nodes i d) ≡ true → node_place nodes s t ≡ i
-once_place nodes t s i d once l h = position_or_len_is (holds s t) nodes i d (omega arith) (λ k below. earlier k below (holds s t (get_or nodes k d)) refl) (λ q. h)
-  where
-    earlier : (k : ℕ) → k < i → (b : Bool) → holds s t (get_or nodes k d) ≡ b → holds s t (get_or nodes k d) ≡ false
-    earlier k below false e = e
-    earlier k below true e = absurd (let two = twice_counted nodes t s k i d below l e h in omega (arith, two, once))
-
-found : (xs : List ℕ) (s k d : ℕ) → k < length xs → get_or xs k d ≡ s → list_any (λ u. u == s) xs ≡ true
+-- a member is found
+pub found : (xs : List ℕ) (s k d : ℕ) → k < length xs → get_or xs k d ≡ s → list_any (λ u. u == s) xs ≡ true
 found [] s k d l e = absurd (omega arith)
 found (x ∷ xs) s zero d l e = ap (λ b. b || list_any (λ u. u == s) xs) (test_from_same x s e)
 found (x ∷ xs) s (suc k) d l e = by_first (x == s) (found xs s k d (omega arith) e)

@@ -1,5 +1,5 @@
 pub mod Bounded
-mod Bundles
+pub mod Bundles
 mod Cells
 mod Floors
 pub mod Following

@@ -1,4 +1,5 @@
 pub mod Listing
+pub mod OncePlaces
 mod FirstOnes
 mod Stages
 mod Alike

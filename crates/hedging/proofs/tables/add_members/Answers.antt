@@ -7,7 +7,7 @@ use Rattle.put_words.specs.NodeSums.{node_for}
 use Rattle.hedging.specs.Tables.{gain_of}
 use Rattle.hedging.proofs.Filling.{and_false, gained_as, gained_on, member_node, none_gained, still_table}
 use Rattle.hedging.proofs.Fitting.{node_members}
-use Rattle.hedging.proofs.Cells.{ones}
+use Rattle.tree_core.proofs.Listing.{ones}
 use Rattle.hedging.proofs.Places.{both_due, member_due}
 use Rattle.hedging.proofs.tables.add_members.Goals as goal
 
