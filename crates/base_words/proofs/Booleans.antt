@@ -1,6 +1,6 @@
--- What disjunctions of tests come to.
+-- What disjunctions and conjunctions of tests come to.
 
-use Rattle.std.proofs.Common.{refl, sym, ◌∙◌, ◌≡◌, Bool, true, false, ◌||◌}
+use Rattle.std.proofs.Common.{refl, sym, ◌∙◌, ◌≡◌, Bool, true, false, ◌&&◌, ◌||◌}
 
 pub or_true : (b : Bool) → (b || true) ≡ true
 or_true true = refl
@@ -9,6 +9,14 @@ or_true false = refl
 pub or_false : (b : Bool) → (b || false) ≡ b
 or_false true = refl
 or_false false = refl
+
+pub and_true : (b : Bool) → (b && true) ≡ b
+and_true true = refl
+and_true false = refl
+
+pub and_false : (b : Bool) → (b && false) ≡ false
+and_false true = refl
+and_false false = refl
 
 -- where neither holds, the first doesn't
 pub or_left : (a b : Bool) → (a || b) ≡ false → a ≡ false
@@ -24,16 +32,6 @@ or_right false b h = h
 pub or_right_true : (a b : Bool) → b ≡ true → (a || b) ≡ true
 or_right_true true b h = refl
 or_right_true false b h = h
-
--- where both fail, so does the disjunction
-pub either_false : (p q : Bool) → p ≡ false → q ≡ false → (p || q) ≡ false
-either_false true q h k = absurd cc
-either_false false q h k = k
-
--- where neither holds, both fail
-pub neither : (a b : Bool) → (a || b) ≡ false → (a ≡ false) × (b ≡ false)
-neither true b h = absurd cc
-neither false b h = (refl, h)
 
 -- no test holds and fails
 pub not_both : (b : Bool) → b ≡ true → b ≡ false → ⊥

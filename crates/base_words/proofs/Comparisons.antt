@@ -36,15 +36,3 @@ both_right false q h = absurd cc
 
 pub both_parts : (p q : Bool) → (p && q) ≡ true → (p ≡ true) × (q ≡ true)
 both_parts p q h = (both_left p q h, both_right p q h)
-
-pub both : (p q : Bool) → p ≡ true → q ≡ true → (p && q) ≡ true
-both true q h k = k
-both false q h k = h
-
-pub left_fails : (p q : Bool) → p ≡ false → (p && q) ≡ false
-left_fails true q h = absurd cc
-left_fails false q h = refl
-
-pub right_fails : (p q : Bool) → q ≡ false → (p && q) ≡ false
-right_fails true q h = h
-right_fails false q h = refl

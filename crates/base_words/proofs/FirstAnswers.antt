@@ -9,6 +9,9 @@ use Rattle.base_words.specs.FirstAnswers.{first_some}
 pub same_some : {X : Type 0} {a b : X} → Some a ≡ Some b → a ≡ b
 same_some e = cc
 
+pub no_some : {A B : Type 0} (x : A) → None ≡ Some x → B
+no_some x e = absurd cc
+
 option_or_assoc : {B : Type 0} (a b c : Option B) → option_or a (option_or b c) ≡ option_or (option_or a b) c
 option_or_assoc None b c = refl
 option_or_assoc (Some v) b c = refl

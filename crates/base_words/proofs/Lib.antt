@@ -1,7 +1,6 @@
 pub mod Booleans
 pub mod Comparisons
 pub mod FirstAnswers
-pub mod Gathering
 pub mod ListSums
 pub mod ListSumsByNumber
 pub mod Made

@@ -1,15 +1,15 @@
 -- laws of sums over a list: of parts, of sums and products, term by term, and of two sums in either order.
 
-use Rattle.std.proofs.Common.{arith, refl, sym, ap, ◌∙◌, ◌≡◌, ℕ, ◌+◌, ◌<◌, List, [], ◌∷◌, ◌++◌, map, length, get_or, take, ℤ, pos, ◌+ℤ◌, ◌*ℤ◌, ◌≤ℤ◌}
+use Rattle.std.proofs.Common.{arith, refl, sym, ap, ◌∙◌, ◌≡◌, ℕ, ◌+◌, ◌<◌, List, [], ◌∷◌, ◌++◌, length, get_or, take, ℤ, pos, ◌+ℤ◌, ◌*ℤ◌}
 use Rattle.std.proofs.lemmas.Int.{ints}
 use Rattle.std.proofs.Math.IntN.{*ℤ-zero}
 use Rattle.std.proofs.lemmas.List.Sums.{fold_more}
-use Rattle.std.specs.List.{fold, flat_map, AllByRecursion}
+use Rattle.std.specs.List.{fold, AllByRecursion}
 use Rattle.base_words.specs.ListSums.{sum_z}
-use Rattle.base_words.proofs.Products.{times_sum}
+use Rattle.base_words.proofs.Products.{sum_times, times_sum, zero_times}
 
 -- a sum begun at another number than 0
-sum_z-begun : {A : Type 0} (f : A → ℤ) (a : ℤ) (xs : List A) → fold (λ sum x. sum +ℤ f x) a xs ≡ a +ℤ sum_z f xs
+pub sum_z-begun : {A : Type 0} (f : A → ℤ) (a : ℤ) (xs : List A) → fold (λ sum x. sum +ℤ f x) a xs ≡ a +ℤ sum_z f xs
 sum_z-begun f a [] = omega (arith, ints)
 sum_z-begun f a (x ∷ xs) =
     let p = sum_z-begun f (a +ℤ f x) xs in
@@ -45,24 +45,17 @@ sum_z-times c f (x ∷ xs) =
     ∙ sym (times_sum c (f x) (sum_z f xs))
     ∙ ap (λ z. c *ℤ z) (sym (sum_z-cons f x xs))
 
+-- a sum times a number
+pub sum_z-by : {A : Type 0} (f : A → ℤ) (c : ℤ) (xs : List A) → (sum_z f xs *ℤ c) ≡ sum_z (λ x. f x *ℤ c) xs
+sum_z-by f c [] = zero_times c
+sum_z-by f c (x ∷ xs) =
+    ap (λ z. z *ℤ c) (sum_z-cons f x xs)
+    ∙ (sum_times (f x) (sum_z f xs) c ∙ (ap (λ z. (f x *ℤ c) +ℤ z) (sum_z-by f c xs) ∙ sym (sum_z-cons (λ y. f y *ℤ c) x xs)))
+
 -- equal item by item
 pub sum_z-same : {A : Type 0} (f g : A → ℤ) (xs : List A) → AllByRecursion (λ x. f x ≡ g x) xs → sum_z f xs ≡ sum_z g xs
 sum_z-same f g [] h = refl
 sum_z-same f g (x ∷ xs) h = omega (arith, ints, sum_z-cons f x xs, sum_z-cons g x xs, h.0, sum_z-same f g xs h.1)
-
--- at most, item by item
-pub sum_z-le : {A : Type 0} (f g : A → ℤ) (xs : List A) → AllByRecursion (λ x. f x ≤ℤ g x) xs → sum_z f xs ≤ℤ sum_z g xs
-sum_z-le f g [] h = omega (arith, ints)
-sum_z-le f g (x ∷ xs) h = omega (arith, ints, sum_z-cons f x xs, sum_z-cons g x xs, h.0, sum_z-le f g xs h.1)
-
-pub sum_z-map : {A B : Type 0} (f : B → ℤ) (g : A → B) (xs : List A) → sum_z f (map g xs) ≡ sum_z (λ x. f (g x)) xs
-sum_z-map f g [] = refl
-sum_z-map f g (x ∷ xs) = omega (arith, ints, sum_z-cons f (g x) (map g xs), sum_z-cons (λ y. f (g y)) x xs, sum_z-map f g xs)
-
--- the sum over joined lists is the sum of their sums
-pub sum_z-flat_map : {A B : Type 0} (f : B → ℤ) (g : A → List B) (xs : List A) → sum_z f (flat_map g xs) ≡ sum_z (λ x. sum_z f (g x)) xs
-sum_z-flat_map f g [] = refl
-sum_z-flat_map f g (x ∷ xs) = omega (arith, ints, sum_z-append f (g x) (flat_map g xs), sum_z-cons (λ y. sum_z f (g y)) x xs, sum_z-flat_map f g xs)
 
 -- the sum of a row and of the rows behind it, column by column
 by_columns : {A B : Type 0} (f : A → B → ℤ) (x : A) (xs : List A) (ys : List B) → sum_z (λ y. f x y +ℤ sum_z (λ w. f w y) xs) ys ≡ sum_z (λ y. sum_z (λ w. f w y) (x ∷ xs)) ys

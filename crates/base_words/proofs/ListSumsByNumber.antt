@@ -1,19 +1,29 @@
 -- sums over the numbers below n, and over a list that has each of these numbers once.
 
-use Rattle.std.proofs.Common.{arith, refl, sym, ap, ◌∙◌, ◌≡◌, ℕ, zero, suc, ◌+◌, ◌<◌, ◌≤◌, ◌==◌, Bool, true, false, cond, List, [], ◌∷◌, ◌++◌, take, ℤ, pos, ◌+ℤ◌, ◌*ℤ◌}
+use Rattle.std.proofs.Common.{arith, refl, sym, ap, append-nil, subst, ◌∙◌, ◌≡◌, ℕ, zero, suc, ◌+◌, ◌<◌, ◌≤◌, ◌==◌, Bool, true, false, cond, List, [], ◌∷◌, ◌++◌, take, ℤ, pos, ◌+ℤ◌, ◌*ℤ◌}
 use Rattle.std.proofs.lemmas.Int.{ints}
 use Rattle.std.proofs.lemmas.List.Sums.{sum_by-cons}
-use Rattle.std.specs.List.{AllByRecursion, count_by, range_with_len}
+use Rattle.std.specs.List.{AllByRecursion, count_by, flat_map, range_with_len}
 use Rattle.base_words.specs.ListSums.{sum_z}
 use Rattle.base_words.specs.Sums.{sum_below}
 use Rattle.base_words.proofs.ListSums.{sum_z-cons, sum_z-push}
 use Rattle.base_words.proofs.Products.{sum_times, times_one, zero_times}
+use Rattle.std.proofs.lemmas.Grind.{flat_map-append}
 use Rattle.std.proofs.Math.IntN.{*ℤ_comm}
 
 -- one number more at the end of a range
 pub range_more : (a n : ℕ) → range_with_len a (suc n) ≡ range_with_len a n ++ (a + n) ∷ []
 range_more a zero = let e : a + zero ≡ a = omega arith in ap (λ m. m ∷ []) (sym e)
 range_more a (suc n) = let e : a + 1 + n ≡ a + suc n = omega arith in ap (λ ms. a ∷ ms) (range_more (a + 1) n ∙ ap (λ m. range_with_len (a + 1) n ++ m ∷ []) e)
+
+-- lists gathered over the numbers from 1 on, one more
+pub flat_map-more : {X : Type 0} (f : ℕ → List X) (n : ℕ) → flat_map f (range_with_len 1 (suc n)) ≡ flat_map f (range_with_len 1 n) ++ f (suc n)
+flat_map-more f n =
+    let e : 1 + n ≡ suc n = omega arith in
+    ap (flat_map f) (range_more 1 n ∙ ap (λ m. range_with_len 1 n ++ m ∷ []) e) ∙ flat_map-append f (range_with_len 1 n) (suc n ∷ []) ∙ ap (λ l. flat_map f (range_with_len 1 n) ++ l) (append-nil (f (suc n)))
+
+pub flat_map-next : {X : Type 0} (f : ℕ → List X) (n : ℕ) → flat_map f (range_with_len 1 (n + 1)) ≡ flat_map f (range_with_len 1 n) ++ f (n + 1)
+flat_map-next f n = let e : suc n ≡ n + 1 = omega arith in let P : ℕ → Type 0 = λ m. flat_map f (range_with_len 1 m) ≡ flat_map f (range_with_len 1 n) ++ f m in subst P e (flat_map-more f n)
 
 -- the sum over the numbers below n is the sum over the list of them
 pub sum_below_is : (n : ℕ) (f : ℕ → ℤ) → sum_below n f ≡ sum_z f (range_with_len 0 n)
@@ -37,7 +47,7 @@ sum_below-zero zero = refl
 sum_below-zero (suc n) = omega (arith, ints, sum_below-zero n)
 
 -- f at one number, and 0 at all others
-abbrev only_at : (ℕ → ℤ) → ℕ → ℕ → ℤ
+abbrev pub only_at : (ℕ → ℤ) → ℕ → ℕ → ℤ
 only_at f y k = cond (y == k) (f k) (pos 0)
 
 only_at-before : (f : ℕ → ℤ) (y n : ℕ) → n < y + 1 → sum_below n (only_at f y) ≡ pos 0
@@ -48,7 +58,7 @@ only_at-before f y (suc n) h =
     omega (arith, ints, p, only_at-before f y n (omega arith))
 
 -- of f at one number the sum is f there
-only_at-sum : (f : ℕ → ℤ) (y n : ℕ) → y < n → sum_below n (only_at f y) ≡ f y
+pub only_at-sum : (f : ℕ → ℤ) (y n : ℕ) → y < n → sum_below n (only_at f y) ≡ f y
 only_at-sum f y zero h = absurd (omega arith)
 only_at-sum f y (suc n) h = by_last (y == n) refl (λ l. only_at-sum f y n l)
   where

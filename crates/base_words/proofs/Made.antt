@@ -33,6 +33,10 @@ module _ {X : Type 0} where
         | inr other ↦ get_or-set_other fs k j y d other ∙ made_at f n j d lt ∙ sym (others j other)
       ])
 
-  -- one item more
+  -- one item more of those from a on
+  pub next_made : (f : ℕ → X) (a n j : ℕ) (old new : List X) (x : X) → a + n ≡ j → new ≡ old ++ x ∷ [] → x ≡ f j → old ≡ map f (range_with_len a n) → new ≡ map f (range_with_len a (n + 1))
+  next_made f a n j old new x e pushed is made = pushed ∙ (ap (λ y. old ++ y ∷ []) is ∙ (ap (λ ys. ys ++ f j ∷ []) made ∙ sym (map-range_with_len_more f a n j e)))
+
+  -- the same of all from 0 on
   pub map_next : (f : ℕ → X) (n : ℕ) (old new : List X) (x : X) → new ≡ old ++ x ∷ [] → x ≡ f n → old ≡ map f (range_with_len 0 n) → new ≡ map f (range_with_len 0 (n + 1))
-  map_next f n old new x pushed is made = pushed ∙ (ap (λ y. old ++ y ∷ []) is ∙ (ap (λ l. l ++ f n ∷ []) made ∙ sym (map-range_with_len_more f 0 n n (omega arith))))
+  map_next f n old new x pushed is made = next_made f 0 n n old new x (omega arith) pushed is made

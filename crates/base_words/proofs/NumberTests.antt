@@ -1,6 +1,6 @@
 -- What tests of natural numbers say.
 
-use Rattle.std.proofs.Common.{arith, ◌≡◌, ◌==◌, ℕ, ◌<◌, ◌≤◌, nat_le, nat_lt, true, false}
+use Rattle.std.proofs.Common.{arith, sym, ◌≡◌, ◌==◌, ℕ, ◌<◌, ◌≤◌, nat_le, nat_lt, Bool, true, false}
 
 pub less_from_test : (a b : ℕ) → nat_lt a b ≡ true → a < b
 less_from_test a b e = grind arith
@@ -27,3 +27,11 @@ same_from_test a b e = grind arith
 
 pub test_from_same : (a b : ℕ) → a ≡ b → (a == b) ≡ true
 test_from_same a b e = grind arith
+
+pub test_from_other : (a b : ℕ) → (a ≡ b → ⊥) → (a == b) ≡ false
+test_from_other a b e = grind arith
+
+-- the same test the other way round
+pub turned_test : (a b : ℕ) (t : Bool) → (a == b) ≡ t → (b == a) ≡ t
+turned_test a b true e = test_from_same b a (sym (same_from_test a b e))
+turned_test a b false e = grind arith

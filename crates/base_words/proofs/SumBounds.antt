@@ -1,6 +1,7 @@
 -- sums over the numbers below n and folds of sums: their bounds by magnitudes, and one part more
 
-use Rattle.std.proofs.Common.{arith, refl, ap, ◌∙◌, sym, ◌≡◌, ℕ, zero, suc, ◌+◌, ◌^◌, ◌<◌, ◌≤◌, Bool, true, false, nat_le, List, [], ◌∷◌, length, get_or, take, ℤ, pos, ◌+ℤ◌, FitsSigned, unsigned_abs}
+use Rattle.std.proofs.Common.{arith, refl, ap, ◌∙◌, sym, ◌≡◌, ℕ, zero, suc, ◌+◌, ◌*◌, ◌^◌, ◌<◌, ◌≤◌, Bool, true, false, nat_le, List, [], ◌∷◌, length, get_or, take, ℤ, pos, ◌+ℤ◌, ◌≤ℤ◌, FitsSigned, unsigned_abs}
+use Rattle.std.proofs.Math.Nat.{mul-add}
 use Rattle.std.proofs.lemmas.Int.{ints}
 use Rattle.std.proofs.lemmas.List.Sums.{fold_more, sum_by-take-le, sum_by-cons, sum_by_more}
 use Rattle.std.specs.Int.{w128}
@@ -18,6 +19,17 @@ pub sum_below-next : (constant s p : ℤ) (j : ℕ) (f : ℕ → ℤ) → s ≡ 
 sum_below-next constant s p j f e d =
     let n : (j + 1) ≡ suc j = omega arith in
     omega (arith, ints, e, d, ap (λ k. sum_below k f) n)
+
+-- the same where nothing stands before the sum
+pub sum_below-more : (s p : ℤ) (j : ℕ) (f : ℕ → ℤ) → s ≡ sum_below j f → p ≡ f j → (s +ℤ p) ≡ sum_below (j + 1) f
+sum_below-more s p j f e d =
+    let n : j + 1 ≡ suc j = omega arith in
+    omega (arith, ints, e, d, ap (λ k. sum_below k f) n)
+
+-- a sum of parts that are no greater
+pub sum_below-mono : (n : ℕ) (f g : ℕ → ℤ) → ((k : ℕ) → k < n → f k ≤ℤ g k) → sum_below n f ≤ℤ sum_below n g
+sum_below-mono zero f g h = omega (arith, ints)
+sum_below-mono (suc n) f g h = omega (arith, ints, h n (omega arith), sum_below-mono n f g (λ k l. h k (omega arith)))
 
 -- a sum of more parts is no smaller
 pub size_below-le : (i n : ℕ) (g : ℕ → ℕ) → i ≤ n → size_below i g ≤ size_below n g
@@ -46,6 +58,11 @@ size_below-mono (suc n) f g h = omega (arith, h n (omega arith), size_below-mono
 pub size_below-add : (n : ℕ) (f g : ℕ → ℕ) → size_below n (λ k. f k + g k) ≡ size_below n f + size_below n g
 size_below-add zero f g = refl
 size_below-add (suc n) f g = omega (arith, size_below-add n f g)
+
+-- a factor of all parts
+pub size_below-times : (n c : ℕ) (f : ℕ → ℕ) → size_below n (λ k. c * f k) ≡ c * size_below n f
+size_below-times zero c f = omega arith
+size_below-times (suc n) c f = ap (λ m. m + c * f n) (size_below-times n c f) ∙ sym (mul-add c (size_below n f) (f n))
 
 -- a fold of sums, by the magnitudes of its parts
 pub fold-abs : {E : Type 0} (f : E → ℤ) (g : E → ℕ) → ((e : E) → unsigned_abs (f e) ≤ g e) → (a : ℤ) (es : List E) → unsigned_abs (fold (λ s e. s +ℤ f e) a es) ≤ unsigned_abs a + sum_by g es

@@ -9,6 +9,7 @@ use Rattle.boxed_problem.specs.declared.parts.Entry.{Entry}
 use Rattle.boxed_problem.specs.declared.parts.Limits.{Limits}
 use Rattle.boxed_problem.specs.declared.parts.Side.{Side}
 use Rattle.boxed_problem.proofs.Narrower.{column_size-within, entries_within}
+use Rattle.base_words.proofs.SumBounds.{size_below-mono}
 
 -- a side put into a box within the one that stood there
 pub set_within : (box : List Side) (j : ℕ) (s : Side) → j < length box → (side_at box j).lower ≤ℤ s.lower → s.lower ≤ℤ s.upper → s.upper ≤ℤ (side_at box j).upper → Filled box → Within (set box j s) box
@@ -34,15 +35,11 @@ set_within (t ∷ box) (suc j) s h l f u g =
     uppers r zero m = omega (arith, ints)
     uppers r (suc k) m = r.upper k (omega arith)
 
-size_below-order : (n : ℕ) (f g : ℕ → ℕ) → ((k : ℕ) → f k ≤ g k) → size_below n f ≤ size_below n g
-size_below-order zero f g h = omega arith
-size_below-order (suc n) f g h = omega (arith, h n, size_below-order n f g h)
-
 -- a problem keeps its facts over narrower sides
 pub boxed_within : (inner outer : List Side) (rows : List Limits) (entries : List Entry) (constant : ℤ) (line square : List ℤ) → All (λ s. s.lower ≤ℤ s.upper) inner → Within inner outer →
     IsBoxed outer rows entries constant line square → IsBoxed inner rows entries constant line square
 boxed_within inner outer rows entries constant line square f w b =
-    let parts = size_below-order (length inner) (column_size inner line square) (column_size outer line square) (λ j. column_size-within inner outer line square j w) in
+    let parts = size_below-mono (length inner) (column_size inner line square) (column_size outer line square) (λ j l. column_size-within inner outer line square j w) in
     let same = ap (λ n. size_below n (column_size outer line square)) w.long in
     record {
       lines = b.lines ∙ sym w.long;

@@ -1,5 +1,6 @@
 -- The test of all rows at once holds exactly where each row is met.
 use Rattle.std.proofs.Common.{arith, refl, sym, subst, ◌∙◌, ◌≡◌, ℕ, zero, suc, ◌<◌, Bool, true, false, nat_lt, List, length, ℤ}
+use Rattle.std.proofs.lemmas.Bool.{and_from}
 use Rattle.boxed_problem.specs.BoxedFacts.{limits_at}
 use Rattle.boxed_problem.specs.Optimum.{Feasible, meets_all}
 use Rattle.boxed_problem.specs.Points.{InBox}
@@ -7,7 +8,7 @@ use Rattle.boxed_problem.specs.Rows.{activity, meets, meets_rows}
 use Rattle.boxed_problem.specs.declared.parts.Limits.{Limits}
 use Rattle.boxed_problem.specs.declared.parts.Entry.{Entry}
 use Rattle.boxed_problem.specs.Data.{Problem}
-use Rattle.base_words.proofs.Comparisons.{both, both_left, both_right}
+use Rattle.base_words.proofs.Comparisons.{both_left, both_right}
 
 -- what holds of all rows holds of each
 pub row_met : (n : ℕ) (rows : List Limits) (entries : List Entry) (x : List ℤ) (i : ℕ) → meets_rows n rows entries x ≡ true → i < n → meets (limits_at rows i) (activity entries x i) ≡ true
@@ -23,7 +24,7 @@ row_met (suc n) rows entries x i h l = by_place (nat_lt i n) refl (λ k. row_met
 -- where each row is met, all are
 rows_met : (n : ℕ) (rows : List Limits) (entries : List Entry) (x : List ℤ) → ((i : ℕ) → i < n → meets (limits_at rows i) (activity entries x i) ≡ true) → meets_rows n rows entries x ≡ true
 rows_met zero rows entries x h = refl
-rows_met (suc n) rows entries x h = both (meets_rows n rows entries x) (meets (limits_at rows n) (activity entries x n)) (rows_met n rows entries x (λ i l. h i (omega arith))) (h n (omega arith))
+rows_met (suc n) rows entries x h = and_from (meets_rows n rows entries x) (meets (limits_at rows n) (activity entries x n)) (rows_met n rows entries x (λ i l. h i (omega arith))) (h n (omega arith))
 
 -- where one row isn't met, not all are
 pub row_fails : (n : ℕ) (rows : List Limits) (entries : List Entry) (x : List ℤ) (i : ℕ) → i < n → meets (limits_at rows i) (activity entries x i) ≡ false → meets_rows n rows entries x ≡ false

@@ -1,8 +1,9 @@
 -- The facts of a scenario problem: how great its objective and its rows may become.
-use Rattle.std.specs.Prelude.{◌≡◌, ℕ, ◌+◌, ◌*◌, ◌^◌, ◌<◌, ◌≤◌, ◌==◌, max, List, length, ℤ, pos, ◌≤ℤ◌, unsigned_abs, slice_index_or, Option, Some, None, if◌then◌else◌}
+use Rattle.std.specs.Prelude.{◌≡◌, ℕ, ◌+◌, ◌*◌, ◌^◌, ◌<◌, ◌≤◌, ◌==◌, max, List, length, ℤ, pos, ◌≤ℤ◌, unsigned_abs, slice_index_or, None, if◌then◌else◌}
 use Rattle.std.specs.List.{All, sum_by}
 use Rattle.boxed_problem.specs.Sides.{side_at, reach}
 use Rattle.base_words.specs.Sums.{size_below, number_at}
+use Rattle.base_words.specs.Signs.{limit_size}
 use Rattle.boxed_problem.specs.declared.parts.Side.{Side}
 use Rattle.boxed_problem.specs.declared.parts.Limits.{Limits}
 use Rattle.boxed_problem.specs.declared.parts.Entry.{Entry}
@@ -38,11 +39,6 @@ value_size columns constant line square =
 abbrev pub entry_size : List Side → ℕ → Entry → ℕ
 entry_size columns i e =
     if e.row == i then unsigned_abs e.value * reach (side_at columns e.column) else 0
-
--- the magnitude of a limit, 0 where there is none
-abbrev pub limit_size : Option ℤ → ℕ
-limit_size None = 0
-limit_size (Some limit) = unsigned_abs limit
 
 -- the greater magnitude of a row's limits
 abbrev pub limits_size : Limits → ℕ

@@ -19,5 +19,6 @@ pub use magnitude::limits_reach;
 pub use objective::column_value;
 pub use odometer::first_point;
 pub use parts::{Best, Entry, Limits, Prices, Side};
+pub use price_fit::{MAX_PRICE_SIZE, has_sign};
 pub use problem::Boxed;
 pub use scanning::{is_better, scan};

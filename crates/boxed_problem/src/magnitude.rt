@@ -1,6 +1,7 @@
 ghost use Rattle.std.specs.Prelude.{◌≡◌, ◌+◌, ◌*◌, ◌<◌, ◌≤◌, length, unsigned_abs, MatchOption};
 ghost use Rattle.std.specs.List.{All};
-ghost use Rattle.boxed_problem.specs.BoxedFacts.{entry_size, limit_size, limits_size, row_size, value_size};
+ghost use Rattle.base_words.specs.Signs.{limit_size};
+ghost use Rattle.boxed_problem.specs.BoxedFacts.{entry_size, limits_size, row_size, value_size};
 ghost use Rattle.boxed_problem.specs.Sides.{reach};
 
 use crate::parts::{Entry, Limits, Side};

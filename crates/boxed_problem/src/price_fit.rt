@@ -7,10 +7,10 @@ use crate::parts::{Limits, Prices};
 use crate::problem::Boxed;
 
 /// The greatest magnitude that prices may have.
-const MAX_SIZE: u128 = 1 << 125;
+pub const MAX_PRICE_SIZE: u128 = 1 << 125;
 
 /// Whether a price has the sign that the limits of its row ask for.
-fn has_sign(limits: Limits, price: i128) -> bool
+pub fn has_sign(limits: Limits, price: i128) -> bool
     ensures { IsTrue result ↔ HasSign limits price }
 {
     (price >= 0 || limits.upper.is_some()) && (price <= 0 || limits.lower.is_some())
@@ -31,14 +31,14 @@ impl Boxed {
         let Some(span) = value_size_upto(columns, self.constant, line, square, MAX_PART) else {
             return false;
         };
-        let Some(mut sum) = add_product(0, prices.scale.unsigned_abs(), span, MAX_SIZE) else {
+        let Some(mut sum) = add_product(0, prices.scale.unsigned_abs(), span, MAX_PRICE_SIZE) else {
             return false;
         };
         for i in 0..rows.len() {
             let Some(size) = row_size_upto(columns, rows, entries, i, MAX_PART) else {
                 return false;
             };
-            let Some(next) = add_product(sum, values[i].unsigned_abs(), size, MAX_SIZE) else {
+            let Some(next) = add_product(sum, values[i].unsigned_abs(), size, MAX_PRICE_SIZE) else {
                 return false;
             };
             sum = next;

@@ -36,7 +36,7 @@ pub fn consider(
     if !is_better(value, best) {
         return Ok(());
     }
-    let point = point.clone()?;
+    let point = point.copied()?;
     *best = Some(Best { point, value });
     Ok(())
 }

@@ -1,5 +1,6 @@
 -- A search that begins with something to beat, beside the plain one.
 use Rattle.std.proofs.Common.{arith, refl, ap, sym, ◌∙◌, ◌≡◌, ℕ, zero, suc, ◌<◌, ◌≤◌, Bool, true, false, not, ◌&&◌, ◌||◌, length, List, [], ◌∷◌, ◌++◌, ℤ, Option, Some, None, if◌then◌else◌, int_lt, ◌<ℤ◌, ◌≤ℤ◌}
+use Rattle.std.proofs.lemmas.Bool.{and_left, and_right}
 use Rattle.std.proofs.lemmas.Int.{ints}
 use Rattle.std.specs.List.{AllByRecursion, filter}
 use Rattle.boxed_problem.specs.Data.{Problem}
@@ -14,7 +15,7 @@ use Rattle.propagate.specs.Ranges.{misses_one}
 use Rattle.boxed_problem.specs.Sides.{Filled}
 use Rattle.boxed_problem.specs.declared.parts.Best.{Best}
 use Rattle.boxed_problem.specs.declared.parts.Side.{Side}
-use Rattle.base_words.proofs.Comparisons.{above_from_test, below_from_test, left_fails, right_fails, test_from_below, test_from_above}
+use Rattle.base_words.proofs.Comparisons.{above_from_test, below_from_test, test_from_below, test_from_above}
 use Rattle.branch_bound.proofs.HalfLaws.{cut_of, filled_cut, narrower}
 use Rattle.boxed_problem.proofs.Least.{best_after, best_after-is, merged, merged_none}
 use Rattle.boxed_problem.proofs.Listing.{on_in}
@@ -157,8 +158,8 @@ none_taken b box best [] a h = refl
 none_taken b box best (x ∷ xs) a h = ap (λ o. best_after b o xs) (ap (λ t. if t then Some (priced b x) else best) (by_test (meets_all b x) refl)) ∙ none_taken b box best xs a.1 h
   where
     by_test : (t : Bool) → meets_all b x ≡ t → (meets_all b x && improves (value_of b x) best) ≡ false
-    by_test true e = right_fails (meets_all b x) (improves (value_of b x) best) (h x (on_in box x a.0) e)
-    by_test false e = left_fails (meets_all b x) (improves (value_of b x) best) e
+    by_test true e = and_right (meets_all b x) (improves (value_of b x) best) (h x (on_in box x a.0) e)
+    by_test false e = and_left (meets_all b x) (improves (value_of b x) best) e
 
 -- a box without a point below the best is opened for nothing
 pub none_past : (b : Problem) (box : List Side) (p : Progress) → Filled box → NoneBelow b p.best box → NotPast (with_opened p) (search b box p)

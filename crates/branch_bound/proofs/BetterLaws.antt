@@ -13,7 +13,8 @@ use Rattle.boxed_problem.specs.declared.parts.Best.{Best}
 use Rattle.boxed_problem.specs.declared.parts.Side.{Side}
 use Rattle.boxed_problem.proofs.FixingLaws.{set_within}
 use Rattle.boxed_problem.proofs.Narrower.{column_size-le, column_size-within}
-use Rattle.safe_bound.proofs.LeastLaws.{least_on-holds, least_on-le, sum_below-order}
+use Rattle.safe_bound.proofs.LeastLaws.{least_on-holds, least_on-le}
+use Rattle.base_words.proofs.SumBounds.{sum_below-mono}
 use Rattle.boxed_problem.proofs.Listing.{in_on}
 use Rattle.boxed_problem.proofs.Lying.{Lies, filled_at, on_lies, within_at, within_self, within_trans}
 use Rattle.base_words.proofs.Comparisons.{below_from_test}
@@ -60,7 +61,7 @@ one_below (suc n) f g h j l = by_place (nat_lt j n) refl (λ k. one_below n f g 
     by_place true e r = let k : j < n = grind arith in let s = r k in let p = h n in omega (arith, ints, s, p)
     by_place false e r =
         let k : j ≡ n = grind arith in
-        let s = sum_below-order n f g h in
+        let s = sum_below-mono n f g (λ j m. h j) in
         let p = ap f k in
         let q = ap g k in
         omega (arith, ints, s, p, q)
@@ -93,8 +94,8 @@ column_narrows b r best m old new j slack s u o same l h k e marks =
 -- narrower sides have no lower total
 total_rises : (r : Reduced) (inner outer : List Side) → Within inner outer → reduced_total r outer ≤ℤ reduced_total r inner
 total_rises r inner outer w =
-    let p = sum_below-order (length r.columns) (least_part r.line r.square outer) (least_part r.line r.square inner)
-    (λ j. let a = within_at inner outer w j in
+    let p = sum_below-mono (length r.columns) (least_part r.line r.square outer) (least_part r.line r.square inner)
+    (λ j m. let a = within_at inner outer w j in
     least_on-holds (λ z. least_part r.line r.square outer j ≤ℤ z) (number_at r.line j) (number_at r.square j) (side_at inner j) (filled_at inner w.filled j)
     (λ x l u. least_on-le (number_at r.line j) (number_at r.square j) (side_at outer j) x (omega (arith, ints, a.0, l)) (omega (arith, ints, a.1, u)))) in
     omega (arith, ints, p)
@@ -125,8 +126,8 @@ total_none b r best sides most u w h l x i m = by_test (improves (value_of b x) 
     by_test : (t : Bool) → improves (value_of b x) best ≡ t → t ≡ false
     by_test true d =
         let lies = on_lies sides x (in_on sides x i) in
-        let p = sum_below-order (length r.columns) (least_part r.line r.square sides) (value_part r.line r.square x)
-        (λ j. let k = lies j in least_on-le (number_at r.line j) (number_at r.square j) (side_at sides j) (number_at x j) k.0 k.1) in
+        let p = sum_below-mono (length r.columns) (least_part r.line r.square sides) (value_part r.line r.square x)
+        (λ j l. let k = lies j in least_on-le (number_at r.line j) (number_at r.square j) (side_at sides j) (number_at x j) k.0 k.1) in
         let wide = in_wider sides b.columns x w i in
         let q = u.below x wide m in
         let o = h x wide d in

@@ -1,5 +1,6 @@
 -- Down the halving tree to a box that holds the sides.
 use Rattle.std.proofs.Common.{arith, refl, ap, sym, subst, ◌∙◌, ◌≡◌, ℕ, zero, suc, Bool, true, false, not, ◌&&◌, length, List, [], ◌∷◌, ℤ, ◌≤ℤ◌, Option, Some}
+use Rattle.std.proofs.lemmas.Bool.{and_from, or_from}
 use Rattle.std.proofs.lemmas.Int.{ints}
 use Rattle.boxed_problem.specs.Data.{Problem}
 use Rattle.boxed_problem.specs.BoxedFacts.{limits_at}
@@ -18,14 +19,15 @@ use Rattle.boxed_problem.specs.declared.parts.Best.{Best}
 use Rattle.boxed_problem.specs.declared.parts.Entry.{Entry}
 use Rattle.boxed_problem.specs.declared.parts.Limits.{Limits}
 use Rattle.boxed_problem.specs.declared.parts.Side.{Side}
-use Rattle.base_words.proofs.Comparisons.{both, both_left, both_right, not_not}
+use Rattle.base_words.proofs.Comparisons.{both_left, both_right, not_not}
 use Rattle.branch_bound.proofs.HalfLaws.{Cut, after, cut_of, filled_cut, here}
 use Rattle.boxed_problem.proofs.Least.{best_after}
-use Rattle.safe_bound.proofs.LeastLaws.{least_on-holds, least_on-le, sum_below-order}
+use Rattle.safe_bound.proofs.LeastLaws.{least_on-holds, least_on-le}
+use Rattle.base_words.proofs.SumBounds.{sum_below-mono}
 use Rattle.boxed_problem.proofs.Listing.{in_on}
 use Rattle.branch_bound.proofs.HalfLaws.{cut_within}
 use Rattle.boxed_problem.proofs.Lying.{filled_at, within_at, within_self, within_trans}
-use Rattle.base_words.proofs.Booleans.{either_false, or_left, or_right}
+use Rattle.base_words.proofs.Booleans.{or_left, or_right}
 use Rattle.propagate.proofs.RangeLaws.{above_more, below_less}
 use Rattle.propagate.proofs.Widening.{high_falls, low_rises}
 use Rattle.branch_bound.proofs.SearchLaws.{improves_less, search_best, search_on}
@@ -53,14 +55,14 @@ apart box h x e k l = on_apart (cut_of box h e) x (in_on h.low x k) (in_on h.hig
 misses_wider : (limits : Limits) (low high down up : ℤ) → down ≤ℤ low → high ≤ℤ up → misses limits low high ≡ false → misses limits down up ≡ false
 misses_wider limits low high down up h k e =
     let t = not_not (is_above limits.lower high && is_below limits.upper low) e in
-    ap not (both (is_above limits.lower up) (is_below limits.upper down)
+    ap not (and_from (is_above limits.lower up) (is_below limits.upper down)
     (above_more limits.lower high up k (both_left (is_above limits.lower high) (is_below limits.upper low) t))
     (below_less limits.upper down low h (both_right (is_above limits.lower high) (is_below limits.upper low) t)))
 
 none_missed_wider : (n : ℕ) (rows : List Limits) (entries : List Entry) (inner outer : List Side) → Within inner outer → misses_one n rows entries inner ≡ false → misses_one n rows entries outer ≡ false
 none_missed_wider zero rows entries inner outer w e = refl
 none_missed_wider (suc n) rows entries inner outer w e =
-    either_false (misses_one n rows entries outer) (misses (limits_at rows n) (low_activity entries outer n) (high_activity entries outer n))
+    or_from (misses_one n rows entries outer) (misses (limits_at rows n) (low_activity entries outer n) (high_activity entries outer n))
     (none_missed_wider n rows entries inner outer w (or_left (misses_one n rows entries inner) (misses (limits_at rows n) (low_activity entries inner n) (high_activity entries inner n)) e))
     (misses_wider (limits_at rows n) (low_activity entries inner n) (high_activity entries inner n) (low_activity entries outer n) (high_activity entries outer n)
     (low_rises entries inner outer n w)
@@ -70,8 +72,8 @@ none_missed_wider (suc n) rows entries inner outer w e =
 -- a wider box has no greater least
 least_wider : (b : Problem) (inner outer : List Side) → Within inner outer → least_value b outer ≤ℤ least_value b inner
 least_wider b inner outer w =
-    let s = sum_below-order (length b.columns) (least_part b.line b.square outer) (least_part b.line b.square inner)
-    (λ j. let a = within_at inner outer w j in
+    let s = sum_below-mono (length b.columns) (least_part b.line b.square outer) (least_part b.line b.square inner)
+    (λ j m. let a = within_at inner outer w j in
     least_on-holds (λ v. least_part b.line b.square outer j ≤ℤ v) (number_at b.line j) (number_at b.square j) (side_at inner j) (filled_at inner w.filled j)
     (λ x l u. least_on-le (number_at b.line j) (number_at b.square j) (side_at outer j) x (omega (arith, ints, a.0)) (omega (arith, ints, a.1)))) in
     omega (arith, ints, s)
@@ -79,7 +81,7 @@ least_wider b inner outer w =
 -- where the plain search wouldn't leave the sides, it doesn't leave a box that holds them
 pub not_pruned_wider : (b : Problem) (inner outer : List Side) (best : Option Best) → Within inner outer → is_pruned b inner best ≡ false → is_pruned b outer best ≡ false
 not_pruned_wider b inner outer best w e =
-    either_false (misses_one (length b.rows) b.rows b.entries outer) (not (improves (least_value b outer) best))
+    or_from (misses_one (length b.rows) b.rows b.entries outer) (not (improves (least_value b outer) best))
     (none_missed_wider (length b.rows) b.rows b.entries inner outer w (or_left (misses_one (length b.rows) b.rows b.entries inner) (not (improves (least_value b inner) best)) e))
     (by_test (improves (least_value b outer) best) refl (not_not (improves (least_value b inner) best) (or_right (misses_one (length b.rows) b.rows b.entries inner) (not (improves (least_value b inner) best)) e)))
   where

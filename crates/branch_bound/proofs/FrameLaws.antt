@@ -5,12 +5,12 @@ use Rattle.std.proofs.lemmas.List.{map-append}
 use Rattle.std.specs.List.{AllByRecursion}
 use Rattle.boxed_problem.specs.Data.{Problem}
 use Rattle.boxed_problem.specs.Objective.{value_of}
-use Rattle.boxed_problem.specs.Sides.{Filled, Within, side_at}
+use Rattle.boxed_problem.specs.Sides.{Filled, Within, no_side, side_at}
 use Rattle.boxed_problem.specs.declared.parts.Best.{Best}
 use Rattle.boxed_problem.specs.declared.parts.Side.{Side}
 use Rattle.boxed_problem.proofs.Lying.{filled_at, within_self}
 use Rattle.propagate.specs.Ranged.{IsInside}
-use Rattle.propagate.proofs.Setting.{set_at}
+use Rattle.propagate.proofs.SpanLaws.{item_set}
 use Rattle.branch_bound.specs.Frames.{Chain, IsFrame, IsOpen, IsRooted, IsStack, SingleTo, box_of, boxes_of, clip, node_of, tree_box}
 use Rattle.branch_bound.specs.Narrowing.{Falls, KeepsBetter}
 use Rattle.propagate.specs.Trails.{KeepsMarks, sides_at}
@@ -148,7 +148,7 @@ frame_inside b best trail frame h l =
     let side = side_at at frame.column in
     let sides = (node_of b.columns at frame).sides in
     let filled = filled_at sides h.node.sides.filled frame.column in
-    let is = set_at at frame.column (clip frame.half side) l in
+    let is = item_set at frame.column (clip frame.half side) no_side l in
     record {
       lower = omega (arith, ints, clamps);
       filled = subst (λ (s : Side). s.lower ≤ℤ s.upper) is filled;

@@ -78,7 +78,7 @@ stack_below b best later old new frame frames h k falls = record {
 }
 
 -- a frame for a half
-abbrev pub half_frame : ℕ → Place → Side → Frame
+abbrev half_frame : ℕ → Place → Side → Frame
 half_frame mark place half = record { mark = mark; column = place.column; half = half }
 
 half_is : (b : Problem) (best : Option Best) (new : Trail) (mark : ℕ) (place : Place) (half : Side) → sides_at new mark ≡ new.sides → SingleTo new.sides place.column → IsOpen b best (node_of b.columns new.sides (half_frame mark place half)) → IsFrame b best new (half_frame mark place half)

@@ -1,5 +1,6 @@
 -- The plain search step by step, and that no depth cuts it short.
 use Rattle.std.proofs.Common.{arith, refl, ap, sym, ◌∙◌, ◌≡◌, ℕ, zero, suc, ◌+◌, ◌<◌, ◌≤◌, Bool, true, false, not, ◌&&◌, ◌||◌, List, [], ◌∷◌, ◌++◌, length, ℤ, ◌≤ℤ◌, Option, Some, None, if◌then◌else◌}
+use Rattle.std.proofs.lemmas.Bool.{and_left, and_right}
 use Rattle.std.proofs.lemmas.Int.{ints}
 use Rattle.std.proofs.lemmas.List.Sums.{fold-append}
 use Rattle.std.specs.List.{AllByRecursion}
@@ -23,7 +24,7 @@ use Rattle.boxed_problem.proofs.Listing.{corner_on}
 use Rattle.boxed_problem.proofs.Lying.{Lies, on_lies}
 use Rattle.boxed_problem.proofs.Members.{listed_on}
 use Rattle.propagate.proofs.RangeLaws.{rows_not_missed, single_met}
-use Rattle.base_words.proofs.Comparisons.{above_from_test, left_fails, not_not, right_fails, test_from_above}
+use Rattle.base_words.proofs.Comparisons.{above_from_test, not_not, test_from_above}
 use Rattle.base_words.proofs.Booleans.{or_left, or_right}
 
 -- two searches that agree on the halves go on alike
@@ -82,9 +83,9 @@ pruned_stays b box best x h e = ap (λ t. if t then Some (priced b x) else best)
     not_met false d m = refl
 
     not_taken : (m i : Bool) → misses_one (length b.rows) b.rows b.entries box ≡ m → improves (least_value b box) best ≡ i → (m || not i) ≡ true → (meets_all b x && improves (value_of b x) best) ≡ false
-    not_taken true i d k f = left_fails (meets_all b x) (improves (value_of b x) best) (not_met (meets_all b x) refl d)
+    not_taken true i d k f = and_left (meets_all b x) (improves (value_of b x) best) (not_met (meets_all b x) refl d)
     not_taken false true d k f = absurd cc
-    not_taken false false d k f = right_fails (meets_all b x) (improves (value_of b x) best) (improves_less best (least_value b box) (value_of b x) (least_holds b box x h) k)
+    not_taken false false d k f = and_right (meets_all b x) (improves (value_of b x) best) (improves_less best (least_value b box) (value_of b x) (least_holds b box x h) k)
 
 stays : (b : Problem) (box : List Side) (best : Option Best) (xs : List (List ℤ)) → AllByRecursion (OnSides box) xs → is_pruned b box best ≡ true → best_after b best xs ≡ best
 stays b box best [] a e = refl

@@ -4,17 +4,18 @@ use Rattle.std.proofs.lemmas.Int.{ints, clamps}
 use Rattle.boxed_problem.specs.Data.{Problem}
 use Rattle.branch_bound.specs.Halves.{behind, halves, high_half, low_half, middle}
 use Rattle.branch_bound.specs.PlainSearch.{width}
-use Rattle.boxed_problem.specs.Sides.{Within, side_at}
+use Rattle.boxed_problem.specs.Sides.{Within, no_side, side_at}
 use Rattle.boxed_problem.specs.declared.parts.Best.{Best}
 use Rattle.boxed_problem.specs.declared.parts.Side.{Side}
 use Rattle.base_words.proofs.Comparisons.{test_from_above, test_from_below}
+use Rattle.propagate.proofs.SpanLaws.{item_not_set, same_or_not}
 use Rattle.branch_bound.proofs.HalfLaws.{cut_of, narrower}
 use Rattle.branch_bound.proofs.HalfLaws.{cut_within}
 use Rattle.boxed_problem.proofs.Lying.{filled_at, within_at, within_trans}
 use Rattle.branch_bound.specs.Frames.{IsOpen, SingleTo, clip, node_of, tree_box}
 use Rattle.branch_bound.specs.Narrowing.{KeepsBetter}
 use Rattle.branch_bound.proofs.Cutting.{keeps_set}
-use Rattle.propagate.proofs.Setting.{same_or_not, set_both, set_not_at, set_outer}
+use Rattle.propagate.proofs.Setting.{set_both, set_outer}
 use Rattle.propagate.proofs.TightLaws.{side_with}
 
 pub same_side : (s t : Side) → s.lower ≡ t.lower → s.upper ≡ t.upper → s ≡ t
@@ -51,7 +52,7 @@ single_narrowed new old j w h k l =
 
 pub single_set : (sides : List Side) (j : ℕ) (s : Side) → SingleTo sides j → SingleTo (slice_set sides j s) j
 single_set sides j s h k l =
-    let e = set_not_at sides j k s (λ d. absurd (omega (arith, d))) in
+    let e = item_not_set sides j k s no_side (λ d. absurd (omega (arith, d))) in
     let g = h k l in
     omega (arith, ints, ap (λ (z : Side). z.lower) e, ap (λ (z : Side). z.upper) e, g)
 

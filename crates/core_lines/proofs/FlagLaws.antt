@@ -5,7 +5,8 @@ use Rattle.std.specs.List.{list_any}
 use Rattle.std.proofs.lemmas.Bool.{cases_eq}
 use Rattle.std.proofs.lemmas.Grind.{common_steps}
 use Rattle.std.proofs.lemmas.List.Elements.{All-push}
-use Rattle.smps_words.specs.CoreFacts.{IsShort, end_size, max_end}
+use Rattle.base_words.specs.Signs.{limit_size}
+use Rattle.smps_words.specs.CoreFacts.{IsShort, max_end}
 use Rattle.core_lines.specs.BoundLines.{is_lowered}
 use Rattle.core_lines.specs.BoundParts.{AreEndsSmall}
 use Rattle.core_lines.specs.Boxes.{end_said}
@@ -41,6 +42,6 @@ bound_added bounds new_bounds flags new_flags bound flag facts small lt flag_is 
     subst (λ (m : List Bool). BoundFacts new_bounds m) (sym (flags_are ∙ ap (λ f. set flags bound.column f) flag_is))
     (subst (λ (l : List Bound). BoundFacts l (set flags bound.column (is_lowered bounds bound.column || bound.speaks_low))) (sym bounds_are) (record {
       same = low_flag_is bounds flags bound facts lt;
-      lowers = All-push (λ (b : Bound). end_size (end_said b.lower) ≤ max_end) bounds bound facts.lowers small.0;
-      uppers = All-push (λ (b : Bound). end_size (end_said b.upper) ≤ max_end) bounds bound facts.uppers small.1;
+      lowers = All-push (λ (b : Bound). limit_size (end_said b.lower) ≤ max_end) bounds bound facts.lowers small.0;
+      uppers = All-push (λ (b : Bound). limit_size (end_said b.upper) ≤ max_end) bounds bound facts.uppers small.1;
     }))

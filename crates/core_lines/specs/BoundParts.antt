@@ -1,6 +1,7 @@
 -- A line of BOUNDS as the reader takes it apart.
 use Rattle.std.specs.Prelude.{ℕ, ◌≤◌, Bool, ◌&&◌, List, [], ◌∷◌, Option, nat_le, if◌then◌else◌}
-use Rattle.smps_words.specs.CoreFacts.{end_size, max_end}
+use Rattle.base_words.specs.Signs.{limit_size}
+use Rattle.smps_words.specs.CoreFacts.{max_end}
 use Rattle.smps_words.specs.Tables.{first_true}
 use Rattle.core_lines.specs.BoundLines.{has_value, is_bad, is_beyond, is_lowered}
 use Rattle.core_lines.specs.Boxes.{end_said}
@@ -24,7 +25,7 @@ HasGoodPlaces (Finite d) = d.places ≤ 9
 
 -- the ends that a line says are small
 abbrev pub AreEndsSmall : Bound → Type 0
-AreEndsSmall b = (end_size (end_said b.lower) ≤ max_end) × (end_size (end_said b.upper) ≤ max_end)
+AreEndsSmall b = (limit_size (end_said b.lower) ≤ max_end) × (limit_size (end_said b.upper) ≤ max_end)
 
 -- the fault of the value of a line of the used set
 abbrev pub value_place_fault : List Bound → BoundKind → ℕ → BoundValue → Option CoreKind

@@ -1,7 +1,8 @@
 -- The facts that the parts of the reader's state keep, over their plain fields.
 use Rattle.std.specs.Prelude.{◌≡◌, ℕ, ◌+◌, ◌≤◌, ◌<◌, ◌==◌, Bool, false, List, length, slice_index, slice_index_or}
 use Rattle.std.specs.List.{All, AllPairs, list_any}
-use Rattle.smps_words.specs.CoreFacts.{IsShort, end_size, max_columns, max_end}
+use Rattle.base_words.specs.Signs.{limit_size}
+use Rattle.smps_words.specs.CoreFacts.{IsShort, max_columns, max_end}
 use Rattle.core_lines.specs.BoundLines.{is_lowered}
 use Rattle.core_lines.specs.Boxes.{end_said}
 use Rattle.core_lines.specs.ColumnLines.{is_cell_of}
@@ -30,5 +31,5 @@ pub record SideFacts (values : List RowValue) (flags : List Bool) : Type 0 where
 -- whether a line spoke of each column's lower end already
 pub record BoundFacts (bounds : List Bound) (flags : List Bool) : Type 0 where
   pub same : (column : ℕ) → is_lowered bounds column ≡ slice_index_or flags column false
-  pub lowers : All (λ (b : Bound). end_size (end_said b.lower) ≤ max_end) bounds
-  pub uppers : All (λ (b : Bound). end_size (end_said b.upper) ≤ max_end) bounds
+  pub lowers : All (λ (b : Bound). limit_size (end_said b.lower) ≤ max_end) bounds
+  pub uppers : All (λ (b : Bound). limit_size (end_said b.upper) ≤ max_end) bounds

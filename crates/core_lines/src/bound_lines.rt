@@ -1,7 +1,8 @@
 ghost use Rattle.std.specs.Prelude.{◌≡◌, ◌<◌, ◌≤◌, ◌*◌, ◌^◌, ◌&&◌, ◌||◌, ◌∷◌, [], ◌++◌, Some, None, Result, Ok, true, false, length, pos, int_lt, unsigned_abs, IfOk, IfSome, if◌then◌else◌};
 ghost use Rattle.std.specs.Option.{option_to_list};
+ghost use Rattle.base_words.specs.Signs.{limit_size};
 ghost use Rattle.dec_core.specs.DecimalValue.{decimal_of};
-ghost use Rattle.smps_words.specs.CoreFacts.{end_size, max_end};
+ghost use Rattle.smps_words.specs.CoreFacts.{max_end};
 ghost use Rattle.smps_words.specs.Tables.{◌or◌, Passes};
 ghost use Rattle.smps_words.specs.TextLines.{field_count, text_of};
 ghost use Rattle.core_lines.specs.BoundLines.{bound_fault, bound_for, bound_set, bounds_in, bounds_next, column_word, has_value, is_bad, is_below, is_beyond, is_endless, is_lowered, is_vast, high_change, kind_of, low_change, lower_said, names_set, speaks_low, upper_said, value_fault, bound_value, value_read, value_word};

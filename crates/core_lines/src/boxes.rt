@@ -1,21 +1,10 @@
-ghost use Rattle.std.specs.Prelude.{◌≡◌, ℕ, ◌<◌, None, Some, length, replicate, slice_index_or, slice_set, IfOk, if◌then◌else◌};
+ghost use Rattle.std.specs.Prelude.{◌≡◌, ℕ, ◌<◌, None, Some, length, slice_index_or, slice_set, IfOk, if◌then◌else◌};
 ghost use Rattle.core_lines.specs.Boxes.{any_below, end_said, has_empty_box, lower_of, speaks, upper_of};
 ghost use Rattle.smps_words.specs.CoreFacts.{is_empty_box};
 
 use crate::cells::{Bound, EndChange};
 use std::alloc::{AllocError, Global};
 use wide_num::List;
-
-// So many ends.
-fn filled(alloc: Global, count: usize, end: Option<i64>) -> Result<List<Option<i64>>, AllocError>
-    ensures { IfOk result (λ ends. ends ≡ replicate count end) }
-{
-    let mut ends = List::new(alloc);
-    for _ in 0..count {
-        ends.push(end)?;
-    }
-    Ok(ends)
-}
 
 // Puts what a line says of an end in its place.
 fn put_end(ends: &mut List<Option<i64>>, column: u32, change: EndChange)
@@ -46,7 +35,7 @@ pub fn lowers_of(
     ensures each { IfOk result
         (λ ends. (j : ℕ) → j < count → slice_index_or ends j None ≡ lower_of bounds.now j) }
 {
-    let mut ends = filled(alloc, count, Some(0))?;
+    let mut ends: List<Option<i64>> = List::repeated(alloc, Some(0), count)?;
     for bound in bounds {
         put_end(&mut ends, bound.column, bound.lower);
     }
@@ -63,7 +52,7 @@ pub fn uppers_of(
     ensures each { IfOk result
         (λ ends. (j : ℕ) → j < count → slice_index_or ends j None ≡ upper_of bounds.now j) }
 {
-    let mut ends = filled(alloc, count, None)?;
+    let mut ends: List<Option<i64>> = List::repeated(alloc, None, count)?;
     for bound in bounds {
         put_end(&mut ends, bound.column, bound.upper);
     }

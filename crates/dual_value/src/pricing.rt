@@ -9,11 +9,11 @@ ghost use Rattle.sp_model.specs.Plans.{multiplier_of, with_prices};
 ghost use Rattle.sp_model.specs.Problems.{problem_in, scenarios};
 
 use boxed_problem::Boxed;
-use put_words::{plus, with_line};
+use put_words::with_line;
 use run_calls::multiplier;
 use sp_model::{Multipliers, Run};
 use std::alloc::{AllocError, Global};
-use wide_num::List;
+use wide_num::{List, plus};
 
 // The multiplier of a column: 0 in the leaf stage.
 fn price(run: &Run, multipliers: &Multipliers, scenario: u32, column: u32) -> i128

@@ -7,9 +7,9 @@ ghost use Rattle.sp_model.specs.Problems.{least_of, scenarios};
 
 use crate::pricing::priced;
 use branch_bound::{SolveFault, solve};
-use put_words::plus;
 use sp_model::{Multipliers, Run};
 use std::alloc::Global;
+use wide_num::plus;
 
 /// Why there is no dual value.
 #[derive(Clone, Copy, Debug, Drop, PartialEq, Eq)]

@@ -10,7 +10,7 @@ use Rattle.std.specs.List.{range_with_len}
 use Rattle.base_words.specs.Gathered.{gathered}
 use Rattle.base_words.specs.Sums.{number_at}
 use Rattle.base_words.proofs.Made.{is_made}
-use Rattle.base_words.proofs.NumberTests.{test_from_same}
+use Rattle.base_words.proofs.NumberTests.{test_from_other, test_from_same}
 use Rattle.tree_core.proofs.Listing.{ones}
 
 -- the place of a cell is below that of each cell of a later row
@@ -43,9 +43,6 @@ joined false true true g x y z e d f = omega (arith, ints, e, d)
 joined false true false g x y z e d f = absurd (omega arith)
 joined false false true g x y z e d f = absurd (omega arith)
 joined false false false g x y z e d f = omega (arith, ints, e, d)
-
-test_from_other : (a b : ℕ) → (a ≡ b → ⊥) → (a == b) ≡ false
-test_from_other a b e = grind arith
 
 -- one cell gains
 pub cell_gains : (m n s k u j : ℕ) (xs ys : List ℤ) (g : ℕ → ℕ → ℤ) → length xs ≡ n * m → s < n → k < m → u < n → j < m → ys ≡ set xs (s * m + k) (number_at xs (s * m + k) +ℤ g s k) →

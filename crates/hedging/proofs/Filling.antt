@@ -10,18 +10,19 @@ use Rattle.std.specs.List.{list_any, range_with_len}
 use Rattle.base_words.specs.Gathered.{gathered}
 use Rattle.base_words.specs.Sums.{number_at}
 use Rattle.base_words.proofs.Magnitudes.{abs-add, fits_from_abs}
-use Rattle.base_words.proofs.NumberTests.{same_from_test, test_from_less, test_from_same}
-use Rattle.tree_core.specs.Nodes.{holds, scenarios_at, StandsOnce}
+use Rattle.base_words.proofs.NumberTests.{same_from_test, test_from_less, turned_test}
+use Rattle.base_words.proofs.Booleans.{and_false, and_true}
+use Rattle.tree_core.specs.Nodes.{holds, scenarios_at}
 use Rattle.run_calls.specs.MultiplierTests.{AreLong, AreSized, is_of_stage, node_at}
 use Rattle.run_calls.proofs.MostBounds.{early_column, most_small, part_small}
-use Rattle.sp_model.specs.Plans.{multiplier_of, no_column, stage_of}
+use Rattle.sp_model.specs.Plans.{multiplier_of, stage_of}
 use Rattle.sp_model.specs.Problems.{scenarios}
 use Rattle.sp_model.specs.declared.plan.Multipliers.{Multipliers}
 use Rattle.sp_model.specs.declared.run.Run.{Run}
 use Rattle.put_words.specs.Hedged.{pull}
 use Rattle.put_words.specs.NextMultipliers.{moved}
 use Rattle.put_words.specs.NodeSums.{AreInside, node_for, value_at}
-use Rattle.put_words.proofs.Bundles.{found}
+use Rattle.put_words.proofs.Bundles.{found, stands}
 use Rattle.put_words.proofs.Rises.{move_abs, node_below}
 use Rattle.hedging.specs.Tables.{ArePulls, gain_of, HaveGained, IsTable}
 use Rattle.hedging.specs.declared.tables.Gain.{Gain}
@@ -95,28 +96,9 @@ cell_gained run most s k gain old new table l h is = record {
   cells = λ u j v i. cell_gains run.nonleaf (scenarios run) s k u j old new gain table.long l h v i is;
 }
 
-stands : (run : Run) (s j : ℕ) → s < scenarios run → j < run.nonleaf → StandsOnce run.program.tree.nodes (stage_of run j) s
-stands run s j l h =
-    let column = run.facts.stages.columns j no_column (early_column run j h) in
-    run.facts.tree.once (stage_of run j) s column.early column.late l
-
 -- whether a node is that of a scenario and a column
 node_test : (run : Run) (n s j : ℕ) → n < length run.program.tree.nodes → s < scenarios run → j < run.nonleaf → (node_for run s j == n) ≡ holds s (stage_of run j) (node_at run n)
 node_test run n s j l m i = place_test run.program.tree.nodes (stage_of run j) s n (stands run s j m i) (node_below run s j m i) l
-
-pub and_true : (a : Bool) → (a && true) ≡ a
-and_true true = refl
-and_true false = refl
-
-pub and_false : (a : Bool) → (a && false) ≡ false
-and_false true = refl
-and_false false = refl
-
-turned_test : (a b : ℕ) → (a == b) ≡ true → (b == a) ≡ true
-turned_test a b e = test_from_same b a (sym (same_from_test a b e))
-
-turned_other : (a b : ℕ) → (a == b) ≡ false → (b == a) ≡ false
-turned_other a b e = grind arith
 
 -- the cells of a node in a column of its stage are those of its scenarios
 pub column_due : (run : Run) (n k s j : ℕ) → n < length run.program.tree.nodes → k < run.nonleaf → is_of_stage run n k ≡ true → s < scenarios run → j < run.nonleaf →
@@ -130,7 +112,7 @@ column_due run n k s j l h stage m i = by_column (j == k) refl
     by_column false e = ap (λ b. (node_for run s j == n) && b) e ∙ and_false (node_for run s j == n) ∙ ap (λ b. b && has) (sym e)
     by_column true e =
         let same : j ≡ k = same_from_test j k e in
-        let of_stage : ((node_at run n).stage == stage_of run j) ≡ true = turned_test (stage_of run j) (node_at run n).stage (ap (λ c. stage_of run c == (node_at run n).stage) same ∙ stage) in
+        let of_stage : ((node_at run n).stage == stage_of run j) ≡ true = turned_test (stage_of run j) (node_at run n).stage true (ap (λ c. stage_of run c == (node_at run n).stage) same ∙ stage) in
         ap (λ b. (node_for run s j == n) && b) e
         ∙ and_true (node_for run s j == n)
         ∙ node_test run n s j l m i
@@ -148,7 +130,7 @@ other_due run n k s j l h stage m i = by_column (j == k) refl
     by_column false e = ap (λ b. (node_for run s j == n) && b) e ∙ and_false (node_for run s j == n)
     by_column true e =
         let same : j ≡ k = same_from_test j k e in
-        let of_other : ((node_at run n).stage == stage_of run j) ≡ false = turned_other (stage_of run j) (node_at run n).stage (ap (λ c. stage_of run c == (node_at run n).stage) same ∙ stage) in
+        let of_other : ((node_at run n).stage == stage_of run j) ≡ false = turned_test (stage_of run j) (node_at run n).stage false (ap (λ c. stage_of run c == (node_at run n).stage) same ∙ stage) in
         ap (λ b. (node_for run s j == n) && b) e
         ∙ and_true (node_for run s j == n)
         ∙ node_test run n s j l m i
@@ -159,7 +141,7 @@ pub member_node : (run : Run) (n i j d : ℕ) → n < length run.program.tree.no
     n ≡ node_for run (get_or (scenarios_at run.program.tree.nodes n) i d) j
 member_node run n i j d l h stage k m =
     let s = get_or (scenarios_at run.program.tree.nodes n) i d in
-    let of_stage : ((node_at run n).stage == stage_of run j) ≡ true = turned_test (stage_of run j) (node_at run n).stage stage in
+    let of_stage : ((node_at run n).stage == stage_of run j) ≡ true = turned_test (stage_of run j) (node_at run n).stage true stage in
     let held : holds s (stage_of run j) (node_at run n) ≡ true = ap (λ b. b && list_any (λ u. u == s) (scenarios_at run.program.tree.nodes n)) of_stage ∙ found (scenarios_at run.program.tree.nodes n) (get_or (scenarios_at run.program.tree.nodes n) i d) i d k refl in
     sym (same_from_test (node_for run s j) n (node_test run n s j l m h ∙ held))
 

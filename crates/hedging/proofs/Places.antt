@@ -5,14 +5,11 @@ use Rattle.std.proofs.Common.{arith, refl, sym, ap, ◌∙◌, ◌≡◌, ℕ, �
 use Rattle.std.proofs.lemmas.List.Folds.{list_any_more, list_any_none}
 use Rattle.std.proofs.lemmas.List.{get_or_default, get_or-take, length-take-le}
 use Rattle.std.specs.List.{AllPairs, list_any}
-use Rattle.base_words.proofs.NumberTests.{same_from_test, test_from_same}
+use Rattle.base_words.proofs.NumberTests.{same_from_test, test_from_other, test_from_same}
 use Rattle.tree_core.specs.Nodes.{holds, no_node, node_place, StandsOnce}
 use Rattle.tree_core.specs.declared.tree.Node.{Node}
 use Rattle.tree_core.proofs.Listing.{ones, place_passes}
 use Rattle.tree_core.proofs.OncePlaces.{once_place}
-
-other_number : (a b : ℕ) → (a ≡ b → ⊥) → (a == b) ≡ false
-other_number a b e = grind arith
 
 -- whether a node is that of a scenario at a stage is whether it has the scenario there
 pub place_test : (nodes : List Node) (t s i : ℕ) → StandsOnce nodes t s → node_place nodes s t < length nodes → i < length nodes → (node_place nodes s t == i) ≡ holds s t (get_or nodes i no_node)
@@ -20,7 +17,7 @@ place_test nodes t s i once there l = by_test (holds s t (get_or nodes i no_node
   where
     by_test : (b : Bool) → holds s t (get_or nodes i no_node) ≡ b → (node_place nodes s t == i) ≡ b
     by_test true e = test_from_same (node_place nodes s t) i (once_place nodes t s i no_node once l e)
-    by_test false e = other_number (node_place nodes s t) i (apart e)
+    by_test false e = test_from_other (node_place nodes s t) i (apart e)
       where
         apart : holds s t (get_or nodes i no_node) ≡ false → node_place nodes s t ≡ i → ⊥
         apart off same =
@@ -29,11 +26,8 @@ place_test nodes t s i once there l = by_test (holds s t (get_or nodes i no_node
             cc
 
 -- one number more is below
-below_next : (a n : ℕ) → ones (nat_lt a (n + 1)) ≡ ones (nat_lt a n) + ones (a == n)
-below_next a n = grind arith
-
 pub next_is_due : (a n : ℕ) → ones (nat_lt a (n + 1)) ≡ ones (nat_lt a n) + ones (a == n)
-next_is_due a n = below_next a n
+next_is_due a n = grind arith
 
 -- behind a test of both
 pub both_due : (p a b c : Bool) → ones c ≡ ones a + ones b → ones (p && c) ≡ ones (p && a) + ones (p && b)
@@ -62,4 +56,4 @@ member_due ns s i d ascending l = by_own (get_or ns i d == s) refl
             let before : k < i = omega (arith, length-take-le i ns (omega arith), h) in
             let less : get_or ns k f < get_or ns i f = ascending k i f before l in
             let last : get_or ns i f ≡ s = get_or_default ns i f d l ∙ same_from_test (get_or ns i d) s e in
-            other_number (get_or (take i ns) k f) s (λ same. absurd (omega (arith, less, last, same, get_or-take i ns k f before)))
+            test_from_other (get_or (take i ns) k f) s (λ same. absurd (omega (arith, less, last, same, get_or-take i ns k f before)))

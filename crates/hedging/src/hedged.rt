@@ -9,11 +9,11 @@ ghost use Rattle.sp_model.specs.Problems.{problem_in, scenarios};
 
 use crate::moving::{rate, twice};
 use boxed_problem::Boxed;
-use put_words::{minus, plus, with_objective};
+use put_words::with_objective;
 use run_calls::{Put, multiplier};
 use sp_model::Run;
 use std::alloc::{AllocError, Global};
-use wide_num::List;
+use wide_num::{List, minus, plus};
 
 // The pull of a scenario in a nonleaf column.
 fn pull_at(run: &Run, put: &Put, pulls: &List<i128>, scenario: u32, column: u32) -> i128

@@ -11,4 +11,4 @@ mod sums;
 mod tables;
 
 pub use hedge::{FirstFault, Hedge, NextFault, first, next};
-pub use sums::node_sum;
+pub use sums::{node_sum, weight_over};

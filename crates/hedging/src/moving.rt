@@ -7,10 +7,10 @@ ghost use Rattle.put_words.specs.NodeSums.{AreInside, node_for, sum_of, value_at
 ghost use Rattle.sp_model.specs.Problems.{scenarios};
 ghost use Rattle.tree_core.specs.Nodes.{scenarios_at};
 
-use crate::sums::{Sums, members, weight, wide_value};
-use put_words::{minus, opposite, plus, times};
-use sp_model::Run;
-use wide_num::List;
+use crate::sums::{Sums, wide_value};
+use run_calls::members;
+use sp_model::{Run, weight};
+use wide_num::{List, minus, opposite, plus, times};
 
 // Node weight times value, less the node's sum.
 fn apart(run: &Run, x: &List<i64>, sums: &Sums, node: u32, scenario: u32, column: u32) -> i128

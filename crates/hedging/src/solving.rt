@@ -15,11 +15,10 @@ use crate::hedged::hedged;
 use crate::tables::pulls;
 use boxed_problem::Best;
 use branch_bound::{SolveFault, solve};
-use put_words::plus;
 use run_calls::Put;
 use sp_model::Run;
 use std::alloc::Global;
-use wide_num::List;
+use wide_num::{List, plus};
 
 /// The best points of all scenarios, and the sum of their values.
 #[derive(Drop)]

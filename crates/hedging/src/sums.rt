@@ -6,17 +6,10 @@ ghost use Rattle.run_calls.specs.MultiplierTests.{AreMembers};
 ghost use Rattle.sp_model.specs.Problems.{scenarios};
 ghost use Rattle.tree_core.specs.Nodes.{scenarios_at};
 
-use put_words::{plus, quotient, times};
-use sp_model::Run;
-use wide_num::List;
-
-// The weight of a scenario.
-pub fn weight(run: &Run, scenario: u32) -> i128
-    requires { scenario < scenarios run.now }
-    ensures { result ≡ weight_at run.now scenario }
-{
-    run.program.scenarios.as_slice()[scenario as usize].weight
-}
+use put_words::quotient;
+use run_calls::members;
+use sp_model::{Run, weight};
+use wide_num::{List, plus, times};
 
 // The value of a scenario in a nonleaf column.
 fn value(run: &Run, x: &List<i64>, scenario: u32, column: u32) -> i64
@@ -72,15 +65,6 @@ pub fn weight_over(run: &Run, members: &[u32]) -> i128
         sum = plus(sum, weight(run, *scenario));
     }
     sum
-}
-
-// The scenarios of a node.
-pub fn members(run: &Run, node: u32) -> &[u32]
-    requires { node < length run.now.program.tree.nodes }
-    ensures value { result.now ≡ scenarios_at run.now.program.tree.nodes node }
-    ensures members { AreMembers run.now result.now }
-{
-    run.program.tree.scenarios(node).as_slice()
 }
 
 /// The weighted sum of a nonleaf column over a node: weight times value, for

@@ -10,11 +10,11 @@ ghost use Rattle.sp_model.specs.Problems.{scenarios};
 ghost use Rattle.tree_core.specs.Nodes.{scenarios_at};
 
 use crate::moving::{move_in, pull};
-use crate::sums::{Sums, members, node_sum, weight_over};
-use put_words::plus;
+use crate::sums::{Sums, node_sum, weight_over};
+use run_calls::{is_of_stage, members};
 use sp_model::{Multipliers, Run};
 use std::alloc::{AllocError, Global};
-use wide_num::List;
+use wide_num::{List, plus};
 
 /// What the cells of a table gain: the pulls of the hedged problems, or the moves
 /// of the multipliers.
@@ -121,16 +121,6 @@ fn add_members(
     for i in 0..members.len() {
         add_cell(run, x, gain, sums, node, members[i], column, cells);
     }
-}
-
-// Whether a column is of the stage of a node.
-fn is_of_stage(run: &Run, node: u32, column: u32) -> bool
-    requires node { node < length run.now.program.tree.nodes }
-    requires column { column < length run.now.program.columns }
-    ensures { result ≡ is_of_stage run.now node column }
-{
-    run.program.columns.as_slice()[column as usize].stage
-        == run.program.tree.nodes.as_slice()[node as usize].stage
 }
 
 // Lets the cells of a node in a column gain, where the column is of its stage.

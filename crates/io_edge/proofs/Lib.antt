@@ -1,4 +1,3 @@
-mod Counts
 mod NameOrder
 mod Stored
 pub mod Writing

@@ -1,12 +1,12 @@
 -- The common number of places of numbers that are picked one after another.
 use Rattle.std.proofs.Common.{arith, refl, ◌≡◌, ◌<◌, ◌+◌, ◌==◌, ℕ, Bool, true, false, not, ◌&&◌, if◌then◌else◌, max, ap, ◌∙◌, sym, subst, length, List, [], ◌∷◌, ◌++◌, map, get_or, take, append-nil, append_assoc, Option, Some, None, add-one}
+use Rattle.std.proofs.lemmas.Bool.{and_right}
 use Rattle.std.specs.Prelude.{IfSome}
 use Rattle.std.specs.List.{filter, fold, range_with_len}
 use Rattle.std.proofs.lemmas.List.{get_or-map, length-map, map-append, take_more}
 use Rattle.std.proofs.lemmas.List.Elements.{filter-append}
 use Rattle.std.proofs.lemmas.List.FromFn.{length-map-range_with_len}
 use Rattle.base_words.proofs.ListSumsByNumber.{range_more}
-use Rattle.base_words.proofs.Comparisons.{right_fails}
 use Rattle.boxed_problem.specs.declared.parts.Side.{Side}
 use Rattle.dec_core.specs.Scale.{common_places}
 use Rattle.dec_core.specs.declared.decimal.Decimal.{Decimal}
@@ -20,6 +20,7 @@ use Rattle.join_words.specs.Boxes.{is_idle}
 use Rattle.join_words.specs.Parts.{no_row}
 use Rattle.join_words.specs.Powers.{is_entry_in, is_live_in, own_numbers}
 use Rattle.base_words.proofs.Made.{changed, is_made, made_at, same_made}
+use Rattle.base_words.proofs.Booleans.{and_true}
 
 common_from : (xs : List Decimal) (a : ℕ) (d : Decimal) → fold (λ most (item : Decimal). max most item.places) a (xs ++ d ∷ []) ≡ max (fold (λ most (item : Decimal). max most item.places) a xs) d.places
 common_from [] a d = refl
@@ -108,12 +109,8 @@ rows_begin p v rows =
     is_made (map (λ (row : CoreRow). common_places (own_numbers row)) rows) (λ i. picked (p i) v (own_numbers (get_or rows i no_row)) []) (length rows) (length-map rows (λ (row : CoreRow). common_places (own_numbers row)))
     (λ j d lt. get_or-map (λ (row : CoreRow). common_places (own_numbers row)) rows j no_row d lt ∙ ap common_places (sym (append-nil (own_numbers (get_or rows j no_row)))))
 
-and_true : (b : Bool) → (b && true) ≡ b
-and_true true = refl
-and_true false = refl
-
 cell_test : (t : Bool) (row i : ℕ) → ((row == i) && not t) ≡ is_row (if t then None else Some row) i
-cell_test true row i = right_fails (row == i) false refl
+cell_test true row i = and_right (row == i) false refl
 cell_test false row i = and_true (row == i)
 
 -- the rows of entries, and of places

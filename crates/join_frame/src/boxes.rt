@@ -1,6 +1,7 @@
 ghost use Rattle.std.specs.Prelude.{◌≡◌, ◌<◌, ◌≤◌, ◌≤ℤ◌, pos, IfOk, length};
 ghost use Rattle.std.specs.List.{All};
-ghost use Rattle.smps_words.specs.CoreFacts.{end_size, max_end};
+ghost use Rattle.base_words.specs.Signs.{limit_size};
+ghost use Rattle.smps_words.specs.CoreFacts.{max_end};
 ghost use Rattle.smps_words.specs.declared.core_data.CoreColumn.{CoreColumn};
 ghost use Rattle.join_words.specs.Boxes.{boxes_of, filled, is_idle, is_zero};
 
@@ -15,8 +16,8 @@ use wide_num::List;
 fn filled(missing: i64, lower: Option<i64>, upper: Option<i64>) -> Side
     requires some { pos 1 ≤ℤ missing }
     requires most { missing ≤ℤ pos max_end }
-    requires lower { end_size lower ≤ max_end }
-    requires upper { end_size upper ≤ max_end }
+    requires lower { limit_size lower ≤ max_end }
+    requires upper { limit_size upper ≤ max_end }
     ensures { result ≡ filled missing lower upper }
 {
     match (lower, upper) {
@@ -40,8 +41,8 @@ fn filled(missing: i64, lower: Option<i64>, upper: Option<i64>) -> Side
 pub fn boxes(alloc: Global, columns: &[CoreColumn], missing: i64) -> Result<List<Side>, AllocError>
     requires some { pos 1 ≤ℤ missing }
     requires most { missing ≤ℤ pos max_end }
-    requires lowers { All (λ (c : CoreColumn). end_size c.lower ≤ max_end) columns.now }
-    requires uppers { All (λ (c : CoreColumn). end_size c.upper ≤ max_end) columns.now }
+    requires lowers { All (λ (c : CoreColumn). limit_size c.lower ≤ max_end) columns.now }
+    requires uppers { All (λ (c : CoreColumn). limit_size c.upper ≤ max_end) columns.now }
     ensures { IfOk result (λ sides. sides ≡ boxes_of missing columns.now) }
 {
     let mut sides = List::new(alloc);

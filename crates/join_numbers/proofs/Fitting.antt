@@ -5,7 +5,7 @@ use Rattle.std.proofs.lemmas.Int.{clamps, fits_signed_from_abs, ints, unsigned_a
 use Rattle.std.proofs.Math.IntN.{*ℤ_comm}
 use Rattle.base_words.proofs.Comparisons.{above_from_test, below_from_test}
 use Rattle.base_words.proofs.Products.{times_one, times_order, zero_times}
-use Rattle.boxed_problem.specs.BoxedFacts.{limit_size}
+use Rattle.base_words.specs.Signs.{limit_size}
 use Rattle.dec_core.specs.Scale.{scaled_to}
 use Rattle.dec_core.specs.declared.decimal.Decimal.{Decimal}
 use Rattle.smps_words.specs.declared.core_data.RowKind.{RowKind}

@@ -1,6 +1,6 @@
 -- Limits, or that one is large.
 use Rattle.std.specs.Prelude.{◌≡◌, ◌≤◌, ◌^◌, ℤ, Option, Result, Ok, Err}
-use Rattle.boxed_problem.specs.BoxedFacts.{limit_size}
+use Rattle.base_words.specs.Signs.{limit_size}
 use Rattle.boxed_problem.specs.declared.parts.Limits.{Limits}
 use Rattle.join_numbers.specs.UnfitNumbers.{AreLarge}
 use Rattle.join_numbers.specs.declared.limits.Unfit.{Unfit}

@@ -41,7 +41,7 @@ module _ (run : Run) (s : LagrangianSpoke) (k : ℕ) (items : List Answer) (back
   by_tests true false e l is = subst (λ (c : Bool). IsBestIf c run items' s.best) (sym e)
       (best_more items (Reply k (Some s.value)) ∙ (ap (λ o. better_value o k (Some s.value)) is.0 ∙ ap (λ (c : Bool). if c then Some (k, s.value) else Some (s.best.put, s.best.value)) l), is.1)
 
-  pub best_stays : IsBest run items s.best → IsBest run items' (best_after (is_better s.best s.value) s k)
+  best_stays : IsBest run items s.best → IsBest run items' (best_after (is_better s.best s.value) s k)
   best_stays is = by_tests s.best.found (int_lt s.best.value s.value) refl refl is
 
 -- multipliers that change places are as long as before
@@ -54,7 +54,7 @@ long_left run s true old new = old
 long_left run s false old new = new
 
 -- the reader reads on, with multipliers of the same length in its put
-pub swapped_reads : (run : Run) (v : View) (r r' : PutReader) → ReadsPuts run v r → r'.layout ≡ r.layout → r'.reader ≡ r.reader → r'.put.x ≡ r.put.x → AreLong run r'.put.multipliers → ReadsPuts run v r'
+swapped_reads : (run : Run) (v : View) (r r' : PutReader) → ReadsPuts run v r → r'.layout ≡ r.layout → r'.reader ≡ r.reader → r'.put.x ≡ r.put.x → AreLong run r'.put.multipliers → ReadsPuts run v r'
 swapped_reads run v r r' h layout reader x left = record {
   layout_is = layout ∙ h.layout_is;
   begins = ap (λ (z : Reader). z.window) reader ∙ h.begins;

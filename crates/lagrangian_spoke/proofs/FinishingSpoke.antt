@@ -45,7 +45,7 @@ module _ (run : Run) (s : LagrangianSpoke) (put : Put) (h : IsSpoke run s) (is :
   never_same e = absurd (omega arith)
 
   -- there is room for its reply
-  pub room_found : (s1 : LagrangianSpoke) → IsFound run (given s m) s1 put.number → 0 < s1.answers.spare
+  room_found : (s1 : LagrangianSpoke) → IsFound run (given s m) s1 put.number → 0 < s1.answers.spare
   room_found s1 found = subst (λ (z : Contents Answer). 0 < z.spare) (sym found.answers) may_finish.room
 
   -- its reply is recorded

@@ -18,7 +18,7 @@ use Rattle.lagrangian_spoke.specs.Spokes.{Calls, Leads, WritesOn, asked, asked_t
 pub is_due : {X : Type 0} → (leaves : X → Call → ℕ → X → Type 0) (view : X → View) (leaders : ℕ) (b b' : X) (made due : Call) (n : ℕ) → due ≡ made → leaves b made n b' → view b' ≡ after leaders made n (view b) → Calls leaves view leaders b b' due n
 is_due leaves view leaders b b' made due n e l k = subst (λ c. Calls leaves view leaders b b' c n) (sym e) (record { leaves_it = l; knows = k })
 
-abbrev in_phase : LagrangianSpoke → Phase → LagrangianSpoke
+abbrev pub in_phase : LagrangianSpoke → Phase → LagrangianSpoke
 in_phase s p = record s { phase = p }
 
 module _ (s : LagrangianSpoke) where

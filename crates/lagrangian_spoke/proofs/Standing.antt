@@ -3,6 +3,7 @@ use Rattle.std.proofs.Common.{arith, refl, sym, ap, ◌∙◌, subst, ◌≡◌,
 use Rattle.std.specs.Int.{w128}
 use Rattle.std.proofs.lemmas.Int.{to_z-of_z}
 use Rattle.base_words.proofs.NumberTests.{test_from_not_less}
+use Rattle.lagrangian_spoke.proofs.Leading.{in_phase}
 use Rattle.word_codec.specs.Spelling.{reply_words}
 use Rattle.sp_model.specs.declared.run.Run.{Run}
 use Rattle.log_words.specs.Replies.{reply_of}
@@ -37,9 +38,6 @@ same_reads run v v' r h reading accepted = record {
 
 not_rank : (a b : ℕ) → nat_lt (a + b) a ≡ false
 not_rank a b = test_from_not_less (a + b) a (omega arith)
-
-abbrev in_phase : LagrangianSpoke → Phase → LagrangianSpoke
-in_phase s p = record s { phase = p }
 
 -- what a spoke keeps doesn't depend on its phase
 pub keeps_phase : (run : Run) (s : LagrangianSpoke) (p : Phase) → IsSpoke run s → IsSpoke run (in_phase s p)

@@ -9,3 +9,4 @@ pub use Rattle.run_calls.specs.MultiplierTests
 pub use Rattle.sp_model.specs.Problems
 pub use Rattle.stamped_read.specs.Readers
 pub use Rattle.word_codec.specs.Spelling
+pub use Rattle.window_words.specs.Views

@@ -10,6 +10,7 @@ use Rattle.std.proofs.lemmas.List.{map-append}
 use Rattle.std.proofs.lemmas.List.Sums.{position_or_len_is}
 use Rattle.std.proofs.lemmas.Map.Made.{AllPairs-from_IsDistinct}
 use Rattle.std.proofs.lemmas.Slice.Eq.{bytes_eq-Decides}
+use Rattle.base_words.proofs.Positions.{any_none}
 use Rattle.indexmap.specs.IndexSet.{insert_key}
 use Rattle.line_core.specs.Names.{number_of, AreDistinct}
 
@@ -21,11 +22,6 @@ position-images p f (x ∷ xs) = grind (arith, common_steps, position-images p f
 pub list_any-images : {X Y : Type 0} (p : Y → Bool) (f : X → Y) (xs : List X) → list_any p (map f xs) ≡ list_any (λ x. p (f x)) xs
 list_any-images p f [] = refl
 list_any-images p f (x ∷ xs) = ap (λ b. p (f x) || b) (list_any-images p f xs)
-
--- no element passes where there is no first one
-pub any_none : {X : Type 0} (p : X → Bool) (xs : List X) → position p xs ≡ None → list_any p xs ≡ false
-any_none p [] e = refl
-any_none p (x ∷ xs) e = grind (arith, common_steps, any_none p xs)
 
 -- a name that isn't there goes last
 pub add_new : {V : Type 0} (f : V → List ℕ) (keys new : List V) (copy : V) (name : List ℕ) (names : List (List ℕ)) → f copy ≡ name → map f keys ≡ names → number_of name names ≡ None → new ≡ insert_key (λ a b. bytes_eq (f a) (f b)) keys copy → map f new ≡ names ++ name ∷ []

@@ -3,8 +3,8 @@ use Rattle.std.proofs.Common.{◌≡◌, ◌≢◌, ℕ, zero, suc, ◌+◌, ◌
 use Rattle.std.specs.Prelude.{All, Option, Some, None}
 use Rattle.std.specs.List.{list_any}
 use Rattle.std.proofs.lemmas.List.Elements.{All-cons, All-nil, All-head, All-get_or, All-weaker}
-use Rattle.std.proofs.lemmas.Bool.{eq-eqb, le-ltb}
-use Rattle.base_words.proofs.Booleans.{neither}
+use Rattle.std.proofs.lemmas.Bool.{eq-eqb, le-ltb, or_parts}
+use Rattle.base_words.proofs.FirstAnswers.{no_some}
 use mathlib.Core.Logic.{dite}
 use native.Mathlib.Decide.{ℕ_discrete, dec_le}
 use Rattle.window_words.specs.Views.{one, pending, last_of, one_more, close_first, entry_of, accept, add_once, ended, is_whole, with_owned, with_reading, with_accepted, with_stopped}
@@ -15,7 +15,6 @@ use Rattle.window_words.specs.declared.views.Reading.{Reading}
 use Rattle.window_words.proofs.Stamps.{whole_tells}
 use Rattle.window_words.proofs.Listed.{last_push, length_push}
 use Rattle.plain_board.specs.Plain.{IsFew}
-use Rattle.plain_board.proofs.Opening.{no_entry}
 
 abbrev IsShort : Owned → Type 0
 IsShort a = length a.closed ≤ last_of a.closed
@@ -61,7 +60,7 @@ few_closed leaders k c w closed v f owned is =
     let long = length_push closed k in let last = last_push closed k in
     let done : All IsShort (one w (closed ++ k ∷ [])) = alone IsShort w (closed ++ k ∷ []) (omega arith) in record {
       closed = subst (λ (z : List Owned × Option Pending). All IsShort (close_first (entry_of z.1) z.0)) (λ i. (sym owned i, sym is i)) done;
-      above = λ p e. no_entry p e;
+      above = λ p e. no_some p e;
       accepted = f.accepted;
     }
 
@@ -74,8 +73,8 @@ few_stopped leaders n v f = record { closed = f.closed; above = f.above; accepte
 -- an item of a list none of whose items is k isn't k
 none_is : (ks : List ℕ) (i k : ℕ) → list_any (λ j. nat_eq j k) ks ≡ false → i < length ks → get_or ks i 0 ≢ k
 none_is [] i k none l e = absurd (omega arith)
-none_is (x ∷ xs) zero k none l e = let f : nat_eq x k ≡ false = (neither (nat_eq x k) (list_any (λ j. nat_eq j k) xs) none).0 in let t : nat_eq x k ≡ true = eq-eqb x k e in cc
-none_is (x ∷ xs) (suc i) k none l e = none_is xs i k (neither (nat_eq x k) (list_any (λ j. nat_eq j k) xs) none).1 (omega arith) e
+none_is (x ∷ xs) zero k none l e = let f : nat_eq x k ≡ false = (or_parts (nat_eq x k) (list_any (λ j. nat_eq j k) xs) none).0 in let t : nat_eq x k ≡ true = eq-eqb x k e in cc
+none_is (x ∷ xs) (suc i) k none l e = none_is xs i k (or_parts (nat_eq x k) (list_any (λ j. nat_eq j k) xs) none).1 (omega arith) e
 
 -- an entry that is at least all of a list and isn't there is above the last
 pub above_last : (ks : List ℕ) (k : ℕ) → 1 ≤ k → All (λ j. j ≤ k) ks → list_any (λ j. nat_eq j k) ks ≡ false → last_of ks < k

@@ -5,7 +5,8 @@ use Rattle.std.specs.List.{range_with_len, Contains}
 use Rattle.std.proofs.lemmas.List.{get_or-map, length-map, length-replicate, map-append}
 use Rattle.std.proofs.lemmas.List.FromFn.{length-map-range_with_len, map-range_with_len_more}
 use Rattle.std.proofs.lemmas.List.Elements.{All-append, All-cons, All-nil}
-use Rattle.base_words.proofs.FirstAnswers.{same_some}
+use Rattle.base_words.proofs.FirstAnswers.{no_some, same_some}
+use Rattle.window_places.specs.Places.{ArePlaces}
 use mathlib.Core.Option.{some, some-injective, some-ne-none}
 use mathlib.Core.Logic.{dite}
 use native.Mathlib.Decide.{ℕ_discrete}
@@ -17,23 +18,16 @@ use Rattle.window_words.specs.Steps.{known}
 use Rattle.window_words.specs.declared.views.View.{View}
 use Rattle.window_words.specs.declared.views.Known.{Known}
 use Rattle.window_words.specs.declared.views.Owned.{Owned}
-use Rattle.window_words.specs.declared.views.Pending.{Pending}
 use Rattle.window_words.proofs.Sharing.{none_accepted}
-use Rattle.window_words.proofs.Listed.{length_push, push_at, push_before}
+use Rattle.window_words.proofs.Listed.{same_all}
 use Rattle.plain_board.specs.declared.seat.PlainSeat.{PlainSeat}
 use Rattle.plain_board.specs.Tracks.{items_of}
 use Rattle.plain_board.specs.Seats.{shown, room_for, IsRoomy}
-use Rattle.plain_board.specs.Fresh.{ArePlaces, fresh_track}
+use Rattle.plain_board.specs.Fresh.{IsWidest, fresh_track}
 use Rattle.plain_board.specs.Plain.{state, hub_view, owner_view, fresh_views, fresh_board, IsFew, PlainRule}
 
 abbrev nought : ℕ
 nought = 0
-
--- a list of one value has it at each place, and past the end as well
-same_all : {A : Type 0} (d : A) (n i : ℕ) → get_or (replicate n d) i d ≡ d
-same_all d zero i = refl
-same_all d (suc n) zero = refl
-same_all d (suc n) (suc i) = same_all d n i
 
 -- what stands in the list of known views
 known_at : {M : Type 0} (of : M) (f : ℕ → View) (a n j : ℕ) (v : Known M) → get_elem? (map (known of) (map f (range_with_len a n))) j ≡ some v → (j < n) × (known of (f (a + j)) ≡ v)
@@ -102,19 +96,16 @@ fresh_rooms : (leaders most a n : ℕ) → map room_of (map (fresh_track leaders
 fresh_rooms leaders most a zero = refl
 fresh_rooms leaders most a (suc n) = let here : room_of (fresh_track leaders most a) ≡ room_for leaders most a = omega arith in let rest = fresh_rooms leaders most (a + 1) n in λ i. here i ∷ rest i
 
-pub no_entry : {A : Type 0} (p : Pending) → None ≡ Some p → A
-no_entry p e = absurd cc
-
 few_accepted_yet : (count w : ℕ) → length (get_or (replicate count no_entries) w no_entries) ≤ last_of (get_or (replicate count no_entries) w no_entries)
 few_accepted_yet count w = subst (λ (z : List ℕ). length z ≤ last_of z) (sym (same_all no_entries count w)) (omega arith)
 
 few_hub : (leaders count : ℕ) → IsFew leaders (hub_view count)
-few_hub leaders count = record { closed = All-nil (λ a. length a.closed ≤ last_of a.closed); above = λ p e. no_entry p e; accepted = λ w _. few_accepted_yet count w }
+few_hub leaders count = record { closed = All-nil (λ a. length a.closed ≤ last_of a.closed); above = λ p e. no_some p e; accepted = λ w _. few_accepted_yet count w }
 
 few_owner : (leaders count w : ℕ) → IsFew leaders (owner_view count w)
 few_owner leaders count w = record {
   closed = All-cons (λ a. length a.closed ≤ last_of a.closed) record { window = w; closed = [] } [] (omega arith) (All-nil (λ a. length a.closed ≤ last_of a.closed));
-  above = λ p e. no_entry p e;
+  above = λ p e. no_some p e;
   accepted = λ w _. few_accepted_yet count w;
 }
 
@@ -132,9 +123,9 @@ fresh_length : (count : ℕ) → length (fresh_views count) ≡ count + 1
 fresh_length count = let l = length-map-range_with_len (owner_view count) 0 count in omega arith
 
 -- what a fresh board keeps
-fresh_rule : {M : Type 0} (E : M → ℕ → ℕ → List ℕ) (W : M → ℕ → ℕ) (C Ld L : M → ℕ) (of : M) (words starts : List ℕ) (n widest : ℕ) (seats : List PlainSeat) → ArePlaces (W of) (C of) starts n widest → words ≡ replicate n 0 → map shown seats ≡ fresh_views (C of)
+fresh_rule : {M : Type 0} (E : M → ℕ → ℕ → List ℕ) (W : M → ℕ → ℕ) (C Ld L : M → ℕ) (of : M) (words starts : List ℕ) (n widest : ℕ) (seats : List PlainSeat) → ArePlaces (W of) (C of) starts n → IsWidest (W of) (C of) widest → words ≡ replicate n 0 → map shown seats ≡ fresh_views (C of)
     → All (IsRoomy (Ld of) (C of) widest (L of)) seats → PlainRule E W C Ld L of words starts seats 0
-fresh_rule {M} E W C Ld L of words starts n widest seats places zero_words views rooms = let many : length seats ≡ C of + 1 = sym (length-map seats shown) ∙ (ap length views ∙ fresh_length (C of)) in
+fresh_rule {M} E W C Ld L of words starts n widest seats places most_wide zero_words views rooms = let many : length seats ≡ C of + 1 = sym (length-map seats shown) ∙ (ap length views ∙ fresh_length (C of)) in
     let all_zero : words ≡ replicate (start (W of) (C of)) 0 = zero_words ∙ ap (λ (z : ℕ). replicate z nought) places.2 in record {
       rule = subst (λ (z : List ℕ × List View). Windows (E of) (W of) (C of) (Ld of) (L of) of (state of z.0 z.1)) (λ i. (sym all_zero i, sym views i)) (opens_well (E of) (W of) (C of) (Ld of) (L of) of);
       short = λ p. subst (λ (z : List ℕ). get_or z p 0 < 18446744073709551616) (sym zero_words) (let z = same_all nought n p in omega arith);
@@ -144,35 +135,27 @@ fresh_rule {M} E W C Ld L of words starts n widest seats places zero_words views
       all_seats = many;
       few = few_seats (Ld of) seats (subst (All (IsFew (Ld of))) (sym views) (fresh_few (Ld of) (C of)));
       widest = widest;
-      wide_most = places.3;
+      wide_most = most_wide;
       rooms = rooms;
     }
 
 -- the same, by the numbers that the code found
-pub fresh_rule_by : {M : Type 0} (E : M → ℕ → ℕ → List ℕ) (W : M → ℕ → ℕ) (C Ld L : M → ℕ) (of : M) (words starts : List ℕ) (n widest windows leaders most : ℕ) (seats : List PlainSeat) → ArePlaces (W of) (C of) starts n widest → words ≡ replicate n 0
+pub fresh_rule_by : {M : Type 0} (E : M → ℕ → ℕ → List ℕ) (W : M → ℕ → ℕ) (C Ld L : M → ℕ) (of : M) (words starts : List ℕ) (n widest windows leaders most : ℕ) (seats : List PlainSeat) → ArePlaces (W of) (C of) starts n → IsWidest (W of) (C of) widest → words ≡ replicate n 0
     → windows ≡ C of → leaders ≡ Ld of → most ≡ L of → map shown seats ≡ fresh_views windows → All (IsRoomy leaders windows widest most) seats → PlainRule E W C Ld L of words starts seats 0
-fresh_rule_by {M} E W C Ld L of words starts n widest windows leaders most seats places zero_words is_count is_lead is_last views rooms =
-    fresh_rule E W C Ld L of words starts n widest seats places zero_words (views ∙ ap fresh_views is_count)
+fresh_rule_by {M} E W C Ld L of words starts n widest windows leaders most seats places most_wide zero_words is_count is_lead is_last views rooms =
+    fresh_rule E W C Ld L of words starts n widest seats places most_wide zero_words (views ∙ ap fresh_views is_count)
     (subst (λ (z : ℕ × ℕ × ℕ). All (IsRoomy z.0 z.1 widest z.2) seats) (λ i. (is_lead i, is_count i, is_last i)) rooms)
 
 -- and what it shows
-pub fresh_shows : {M : Type 0} (W : M → ℕ → ℕ) (C : M → ℕ) (of : M) (words starts : List ℕ) (n widest : ℕ) (views : List View) → ArePlaces (W of) (C of) starts n widest → words ≡ replicate n 0 → views ≡ fresh_views (C of)
+pub fresh_shows : {M : Type 0} (W : M → ℕ → ℕ) (C : M → ℕ) (of : M) (words starts : List ℕ) (n : ℕ) (views : List View) → ArePlaces (W of) (C of) starts n → words ≡ replicate n 0 → views ≡ fresh_views (C of)
     → (of, words, views, nought) ≡ fresh_board W C of
-fresh_shows {M} W C of words starts n widest views places zero_words same = let all_zero : words ≡ replicate (start (W of) (C of)) 0 = zero_words ∙ ap (λ (z : ℕ). replicate z nought) places.2 in λ i. (of, all_zero i, same i, nought)
+fresh_shows {M} W C of words starts n views places zero_words same = let all_zero : words ≡ replicate (start (W of) (C of)) 0 = zero_words ∙ ap (λ (z : ℕ). replicate z nought) places.2 in λ i. (of, all_zero i, same i, nought)
 
--- one more window behind the others
-pub places_more : (wide : ℕ → ℕ) (n : ℕ) (starts starts' : List ℕ) (next next' widest widest' width : ℕ) → ArePlaces wide n starts next widest → width ≡ wide n → starts' ≡ starts ++ next ∷ [] → next' ≡ next + width + 1 → width ≤ widest' → widest ≤ widest'
-    → ArePlaces wide (n + 1) starts' next' widest'
-places_more wide n starts starts' next next' widest widest' width p is pushed past up high = let many = p.0 in let l = length_push starts next in let l' : length starts' ≡ length (starts ++ next ∷ []) = ap length pushed in let begin = p.2 in (
-  omega arith,
-  λ w b. dite (ℕ_discrete w n)
-      (λ last. ap (λ (z : List ℕ). get_or z w 0) pushed ∙ (push_at starts next w (omega arith) ∙ (begin ∙ ap (start wide) (sym last))))
-      (λ other. ap (λ (z : List ℕ). get_or z w 0) pushed ∙ (push_before starts next w (omega arith) ∙ p.1 w (omega arith))),
-  (let e : start wide (suc n) ≡ next' = omega arith in let one : n + 1 ≡ suc n = omega arith in sym (ap (start wide) one ∙ e)),
-  λ w b. dite (ℕ_discrete w n)
-      (λ last. let e : wide w ≡ wide n = ap wide last in omega arith)
-      (λ other. let h = p.3 w (omega arith) in omega arith),
-)
+-- one more window
+pub widest_more : (wide : ℕ → ℕ) (n widest widest' width : ℕ) → IsWidest wide n widest → width ≡ wide n → width ≤ widest' → widest ≤ widest' → IsWidest wide (n + 1) widest'
+widest_more wide n widest widest' width p is up high w b = dite (ℕ_discrete w n)
+    (λ last. let e : wide w ≡ wide n = ap wide last in omega arith)
+    (λ other. let h = p w (omega arith) in omega arith)
 
 -- one more seat behind the others
 pub views_more : (count n : ℕ) (seats seats' : List PlainSeat) (s : PlainSeat) → map shown seats ≡ hub_view count ∷ map (owner_view count) (range_with_len 0 n) → shown s ≡ owner_view count n → seats' ≡ seats ++ s ∷ [] → map shown seats' ≡ hub_view count ∷ map (owner_view count) (range_with_len 0 (n + 1))
@@ -180,8 +163,8 @@ views_more count n seats seats' s views is pushed = ap (map shown) pushed ∙ (m
     ∙ ((λ i. views i ++ is i ∷ []) ∙ ap (λ (z : List View). hub_view count ∷ z) (sym (map-range_with_len_more (owner_view count) 0 n n (omega arith)))))
 
 -- no window
-pub places_none : (wide : ℕ → ℕ) (starts : List ℕ) → starts ≡ [] → ArePlaces wide 0 starts 1 0
-places_none wide starts none_yet = (ap length none_yet, λ w l. absurd (omega arith), refl, λ w l. absurd (omega arith))
+pub widest_none : (wide : ℕ → ℕ) → IsWidest wide 0 0
+widest_none wide w l = absurd (omega arith)
 
 -- a seat that owns no window has room, where its tracks have
 no_window : {A : Type 0} (o : Option ℕ) (w : ℕ) → o ≡ None → o ≡ Some w → A

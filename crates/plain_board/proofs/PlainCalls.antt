@@ -2,6 +2,7 @@
 use Rattle.std.proofs.Common.{◌≡◌, ℕ, ◌+◌, ◌-◌, ◌*◌, ◌/◌, ◌<◌, ◌≤◌, ◌^◌, true, List, [], map, length, get_or, set, sym, refl, ap, ◌∙◌, subst, arith}
 use Rattle.std.specs.Prelude.{All, Option, Some, None}
 use mathlib.Core.Option.{none}
+use Rattle.base_words.proofs.FirstAnswers.{same_some}
 use Rattle.atomic_table.specs.Table.{State, step, Allows}
 use Rattle.window_words.specs.Views.{one, pending, after, entry_of}
 use Rattle.window_words.specs.Conditions.{AcceptedBelow, AcceptedOwn, IsBehindOwn, IsNotAhead, OwnStamp, MayOpen, IsNextWord, IsAllPut, ReadsOn, HasReadAll, IsEntryWhole}
@@ -25,13 +26,6 @@ use Rattle.plain_board.proofs.Fewness.{few_opened, few_put, few_closed, few_read
 use Rattle.plain_board.proofs.Roominess.{room_to_close, room_to_read, room_to_end}
 use Rattle.plain_board.proofs.PlainSteps.{at_known, plain_store, plain_load}
 use Rattle.plain_board.proofs.Boards.{seen, low, few, roomy, keeps_on, short_after}
-
-abbrev reading_or : Reading → Option Reading → Reading
-reading_or d None = d
-reading_or d (Some r) = r
-
-same_reading : (x y : Reading) → Some x ≡ Some y → x ≡ y
-same_reading x y e = ap (reading_or x) e
 
 module _ {M : Type 0} (E : M → ℕ → ℕ → List ℕ) (W : M → ℕ → ℕ) (C Ld L : M → ℕ) (of : M) (fits : (w k : ℕ) → w < C of → 1 ≤ k → k ≤ L of → length (E of w k) ≡ W of w) (words starts : List ℕ) (seats : List PlainSeat) (at : ℕ) (r : PlainRule E W C Ld L of words starts seats at) (s : PlainSeat) (is : s ≡ get_or seats at s) where
   abbrev views : List View
@@ -187,7 +181,7 @@ module _ {M : Type 0} (E : M → ℕ → ℕ → List ℕ) (W : M → ℕ → �
   pub end_place : (w n : ℕ) → HasReadAll (W of) v w → n ≡ stamp (W of) words w → HasRoomToEnd (Ld of) n s
   end_place w n m same = room_to_end (Ld of) (C of) r.widest (L of) n s (roomy E W C Ld L of words starts seats at r s is) (few E W C Ld L of words starts seats at r s is) (λ b is_begun.
       let q : Reading = record { window = b.window; first = b.first; words = s.words.items } in let read : v.reading ≡ Some q = begun_reads s.reading s.words.items b is_begun in
-      let l : b.window < C of = reads_below q read in let one : m.0 ≡ q = same_reading m.0 q (sym m.1 ∙ read) in let at_w : b.window ≡ w = sym (ap (λ (z : Reading). z.window) one) ∙ m.2 in
+      let l : b.window < C of = reads_below q read in let one : m.0 ≡ q = same_some (sym m.1 ∙ read) in let at_w : b.window ≡ w = sym (ap (λ (z : Reading). z.window) one) ∙ m.2 in
       let top = r.rule.top b.window l in let now : n ≡ stamp (W of) words b.window = same ∙ ap (stamp (W of) words) (sym at_w) in
       (l, omega arith, subst (λ (z : ℕ). All (λ j. 2 * j ≤ z) (get_or v.accepted b.window [])) (sym now) (accepted_low b.window)))
 
@@ -200,7 +194,7 @@ module _ {M : Type 0} (E : M → ℕ → ℕ → List ℕ) (W : M → ℕ → �
       let shows' : shown s' ≡ after (Ld of) (End q.window) k v = shows ∙ ap (λ (z : ℕ). after (Ld of) (End w) z v) same' in
       let full : length q.words ≡ W of q.window = m.3 ∙ ap (W of) (sym m.2) in (
         keeps_on E W C Ld L of words starts seats at r s is words s' (after (Ld of) (End q.window) k v) shows' keeps t.1 (few_ended (Ld of) k v q m.1 (accepted_low q.window) (few E W C Ld L of words starts seats at r s is)) r.short,
-        λ q' j read pos first last. let one : q ≡ q' = same_reading q q' (sym m.1 ∙ read) in
+        λ q' j read pos first last. let one : q ≡ q' = same_some (sym m.1 ∙ read) in
             let e = told j pos (ap (λ (z : Reading). z.first) one ∙ first) (sym same' ∙ (last ∙ ap (λ (z : Reading). z.first) (sym one))) in
             (e.0, ap (λ (z : Reading). z.words) (sym one) ∙ (e.1 full ∙ ap (λ (z : ℕ). E of z j) m.2)),
         subst (λ (z : ℕ × ℕ). IsBehindOwn (Ld of) v z.0 z.1) (λ i. (m.2 i, sym same' i)) behind,

@@ -1,15 +1,12 @@
--- What a board is made of: where its windows lie, and seats that know nothing yet.
-use Rattle.std.specs.Prelude.{◌≡◌, ◌<◌, ◌≤◌, ℕ, false, List, [], length, replicate, slice_index, None}
+-- What a board is made of: seats that know nothing yet, with room for the widest window.
+use Rattle.std.specs.Prelude.{◌<◌, ◌≤◌, ℕ, false, [], replicate, None}
 use Rattle.wide_num.specs.RoomContents.{Contents, with_room}
-use Rattle.window_words.specs.Rule.{start}
 use Rattle.window_words.specs.declared.views.View.{View}
 use Rattle.plain_board.specs.Seats.{room_for}
 
--- where the windows begin, how many words there are, and a width that is the greatest
-abbrev pub ArePlaces : (ℕ → ℕ) → ℕ → List ℕ → ℕ → ℕ → Type 0
-ArePlaces wide count starts words widest =
-    (length starts ≡ count) × ((w : ℕ) → w < count → slice_index starts w ≡ start wide w)
-    × (words ≡ start wide count) × ((w : ℕ) → w < count → wide w ≤ widest)
+-- a width that is the greatest
+abbrev pub IsWidest : (ℕ → ℕ) → ℕ → ℕ → Type 0
+IsWidest wide count widest = (w : ℕ) → w < count → wide w ≤ widest
 
 -- no accepted entries of window w, with room for those that there may be
 abbrev pub fresh_track : ℕ → ℕ → ℕ → Contents ℕ

@@ -1,9 +1,7 @@
 -- The whole of a plain board: what it keeps, and the board after each call.
-use Rattle.std.specs.Prelude.{◌≡◌, ◌<◌, ◌≤◌, ℕ, ◌+◌, ◌-◌, ◌*◌, ◌^◌, false, true, List, [], ◌∷◌, map, length, slice_index, slice_index_or, slice_set, replicate, All, Some, None}
-use Rattle.std.specs.List.{range_with_len}
+use Rattle.std.specs.Prelude.{◌≡◌, ◌<◌, ◌≤◌, ℕ, ◌+◌, ◌-◌, ◌*◌, ◌^◌, List, [], map, length, slice_index, slice_index_or, slice_set, replicate, All, Some}
 use Rattle.atomic_table.specs.Table.{State}
-use Rattle.window_words.specs.Views.{after, entry_of, last_of, one}
-use Rattle.window_words.specs.Conditions.{AcceptedOwn, IsBehindOwn}
+use Rattle.window_words.specs.Views.{after, entry_of, last_of}
 use Rattle.window_words.specs.Rule.{start, stamp, word, Windows}
 use Rattle.window_words.specs.Steps.{known}
 pub use Rattle.window_words.specs.Seating.{no_view, hub_view, owner_view, fresh_views, TellsOwn}

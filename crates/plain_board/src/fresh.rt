@@ -1,25 +1,14 @@
-ghost use Rattle.std.specs.Prelude.{◌≡◌, ℕ, ◌+◌, All, IfOk, map, replicate};
+ghost use Rattle.std.specs.Prelude.{◌≡◌, All, IfOk, map};
 ghost use Rattle.std.specs.List.{range_with_len};
 ghost use Rattle.wide_num.specs.RoomContents.{with_room};
 ghost use Rattle.plain_board.specs.Seats.{shown, room_for, IsRoomy};
 ghost use Rattle.plain_board.specs.Plain.{hub_view, owner_view, fresh_views};
-ghost use Rattle.plain_board.specs.Fresh.{ArePlaces, blank_view, fresh_track};
+ghost use Rattle.plain_board.specs.Fresh.{IsWidest, blank_view, fresh_track};
 
 use crate::seat::PlainSeat;
 use crate::track::Track;
 use std::alloc::{AllocError, Global};
 use window_words::Meaning;
-
-/// Where the windows lie.
-#[derive(Drop)]
-pub struct Places {
-    /// The place of each window's stamp.
-    pub starts: Vec<usize>,
-    /// How many words there are, the stop word among them.
-    pub words: usize,
-    /// The greatest width of a window.
-    pub widest: usize,
-}
 
 /// How many windows there are, how many are leaders', the greatest width and
 /// the number of the last entry.
@@ -31,42 +20,16 @@ pub struct Sizes {
     pub most: usize,
 }
 
-/// So many words, all 0.
-pub fn zeros(alloc: Global, count: usize) -> Result<Vec<u64>, AllocError>
-    ensures { IfOk result (λ words. words.items ≡ replicate count 0) }
+/// The greatest width of a window, and 0 where there is none.
+pub fn widest_of<M: Meaning>(of: &M) -> usize
+    ensures { IsWidest (M.wide of.now) (M.count of.now) result }
 {
-    let words = vec![in alloc; 0; count]?;
-    Ok(words)
-}
-
-/// Where a window ends and the next begins. Words whose number has no `usize`
-/// are refused as memory is.
-fn past(start: usize, width: usize) -> Result<usize, AllocError>
-    ensures { IfOk result (λ next. next ≡ start + width + 1) }
-{
-    let end = start.checked_add(width).ok_or(AllocError)?;
-    end.checked_add(1).ok_or(AllocError)
-}
-
-/// Where the windows of a meaning lie.
-pub fn places_of<M: Meaning>(alloc: Global, of: &M) -> Result<Places, AllocError>
-    ensures { IfOk result (λ places. ArePlaces (M.wide of.now) (M.count of.now)
-        places.starts.items places.words places.widest) }
-{
-    let mut starts = Vec::new(alloc);
-    let mut next = 1;
     let mut widest = 0;
     for window in 0..of.windows() {
         let width = of.width(window);
-        starts.push(next)?;
-        next = past(next, width)?;
         widest = width.max(widest);
     }
-    Ok(Places {
-        starts,
-        words: next,
-        widest,
-    })
+    widest
 }
 
 /// How many accepted entries of a window a seat may have: the latest of a

@@ -2,10 +2,11 @@ ghost use Rattle.std.specs.Prelude.{◌≡◌, ◌≤◌, IfOk};
 ghost use Rattle.plain_board.specs.Plain.{fresh_board, selected, state, LeavesAll};
 ghost use Rattle.window_words.specs.Rule.{Windows};
 
-use crate::fresh::{Sizes, fresh_seats, places_of, zeros};
+use crate::fresh::{Sizes, fresh_seats, widest_of};
 use crate::seat::PlainSeat;
 use std::alloc::{AllocError, Global};
 use std::marker::Model;
+use window_places::{places_of, zeros};
 use window_words::{Board, Meaning};
 
 /// A board on one thread, for the seat that was selected last. Seat 0 is the
@@ -46,7 +47,7 @@ impl<M: Meaning + Drop> PlainBoard<M> {
         let sizes = Sizes {
             windows: meaning.windows(),
             leaders: meaning.leaders(),
-            widest: places.widest,
+            widest: widest_of(&meaning),
             most: meaning.most() as usize,
         };
         let seats = fresh_seats(alloc, sizes)?;

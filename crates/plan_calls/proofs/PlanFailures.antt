@@ -1,6 +1,7 @@
 -- Where no place fails the points are a plan, and where one fails they aren't.
 
 use Rattle.std.proofs.Common.{arith, refl, sym, ap, subst, ◌∙◌, ◌≡◌, ℕ, ◌<◌, Bool, true, false, length, get_or, int_le, Option, Some, None, Result, Ok, Err, OnOk, OnErr, if◌then◌else◌}
+use Rattle.std.proofs.lemmas.Bool.{and_from}
 use Rattle.std.specs.List.{Contains, range_with_len}
 use Rattle.std.specs.Option.{option_or}
 use Rattle.std.specs.Ordering.{int_eq}
@@ -10,7 +11,7 @@ use Rattle.std.proofs.lemmas.List.{get_or_default}
 use Rattle.std.proofs.lemmas.List.Elements.{All-contains, All-from_recursion, Contains-get_or, recursion_from_All}
 use Rattle.std.proofs.lemmas.List.FromFn.{get_or-range_with_len, length-range_with_len}
 use Rattle.base_words.specs.FirstAnswers.{first_some}
-use Rattle.base_words.proofs.Comparisons.{both, both_left, both_right, most_from_test, test_from_most}
+use Rattle.base_words.proofs.Comparisons.{both_left, both_right, most_from_test, test_from_most}
 use Rattle.base_words.proofs.FirstAnswers.{first_some-all_none, first_some-none, left_none, right_none}
 use Rattle.base_words.proofs.NumberTests.{same_from_test, test_from_same}
 use Rattle.boxed_problem.specs.BoxedFacts.{limits_at}
@@ -93,7 +94,7 @@ nonanticipative run plan none s u j l (i, n, node, is, (stage, has, other)) =
     node_same run plan i j s none node l same_stage (subst P at has) ∙ sym (node_same run plan i j u none node l same_stage (subst Q at other))
 
 -- no failure: a plan
-pub none_is_plan : (run : Run) (plan : Plan) → ArePoints run plan → no_plan run plan ≡ None → IsPlan run plan
+none_is_plan : (run : Run) (plan : Plan) → ArePoints run plan → no_plan run plan ≡ None → IsPlan run plan
 unfolding no_plan
 none_is_plan run plan points none =
     let apart = right_none (infeasible run plan) (split run plan) none in
@@ -110,7 +111,7 @@ plan_inside run plan s j inside l =
     let side = side_at (sides run.program) j in
     let v = value_in plan s j in
     let there : j < length (sides run.program) = omega (arith, l, columns_long run) in
-    holds_silent (lies_on side v) (Outside s j v) (both (int_le side.lower v) (int_le v side.upper) (test_from_most side.lower v (inside.lower j there)) (test_from_most v side.upper (inside.upper j there)))
+    holds_silent (lies_on side v) (Outside s j v) (and_from (int_le side.lower v) (int_le v side.upper) (test_from_most side.lower v (inside.lower j there)) (test_from_most v side.upper (inside.upper j there)))
 
 plan_feasible : (run : Run) (plan : Plan) (s : ℕ) → s < scenarios run → Feasible (problem_in run s) (point_of plan s) → infeasible_in run plan s ≡ None
 plan_feasible run plan s there feasible =

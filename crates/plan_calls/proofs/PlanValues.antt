@@ -7,7 +7,7 @@ use Rattle.std.proofs.lemmas.List.{length-map}
 use Rattle.std.proofs.Math.Nat.{mul-le-mul, mul_comm}
 use Rattle.base_words.specs.Sums.{number_at, sum_below}
 use Rattle.base_words.proofs.Magnitudes.{abs-add, fits_from_abs}
-use Rattle.base_words.proofs.SumBounds.{sum_below-abs, sum_below-next}
+use Rattle.base_words.proofs.SumBounds.{size_below-times, sum_below-abs}
 use Rattle.boxed_problem.specs.BoxedFacts.{column_size}
 use Rattle.boxed_problem.specs.Objective.{curve, value_of, value_part}
 use Rattle.boxed_problem.specs.Points.{InBox}
@@ -18,7 +18,7 @@ use Rattle.sp_model.specs.Problems.{data_at, factor_of, problem_in, scenarios}
 use Rattle.sp_model.specs.declared.plan.Plan.{Plan}
 use Rattle.sp_model.specs.declared.run.Run.{Run}
 use Rattle.sp_model.proofs.Bounds.{reach_parts, value_fits}
-use Rattle.sp_model.proofs.Sizes.{size_below-times, times_at, zeros_at}
+use Rattle.sp_model.proofs.Sizes.{times_at, zeros_at}
 use Rattle.sp_model.proofs.CostSpans.{cost_span, plain_span}
 use Rattle.sp_model.proofs.LeastSums.{factors_le}
 
@@ -80,10 +80,6 @@ values_fit run plan k is h =
     let turn = mul_comm span (unsigned_abs run.options.scale * unsigned_abs run.total) in
     let total = (reach_parts run).0 in
     fits_from_abs (sum_below k (point_value run plan)) (omega (arith, each, times, all, turn, total))
-
--- one scenario more
-pub cost_next : (f : ℕ → ℤ) (s v : ℤ) (k : ℕ) → s ≡ sum_below k f → v ≡ f k → (s +ℤ v) ≡ sum_below (k + 1) f
-cost_next f s v k e d = let zero_first : s ≡ (pos 0 +ℤ sum_below k f) = omega (arith, ints, e) in omega (arith, ints, sum_below-next (pos 0) s v k f zero_first d)
 
 -- the constant alone
 pub begun : (run : Run) (s : ℕ) (x : List ℤ) (v : ℤ) → v ≡ (factor_of run s *ℤ run.program.constant) → v ≡ ((problem_in run s).constant +ℤ sum_below 0 (value_part (problem_in run s).line (problem_in run s).square x))

@@ -9,8 +9,8 @@ ghost use Rattle.plan_calls.specs.Moves.{IsSmallMove, IsSmallPart, cell, entry_i
 
 use crate::values::{changes, core_cell};
 use boxed_problem::{Entry, product};
-use put_words::{minus, plus};
 use sp_model::{Change, Program, Run};
+use wide_num::{minus, plus};
 
 // What an entry adds to the activity of a row at a point.
 fn entry_part(entry: Entry, point: &[i64], row: u32) -> i128

@@ -6,10 +6,10 @@ ghost use Rattle.sp_model.specs.Changes.{sides};
 ghost use Rattle.sp_model.specs.Plans.{IsPlan, cost_of};
 ghost use Rattle.sp_model.specs.Problems.{problem_in, scenarios};
 
-use crate::values::{cost_at, factor, point};
+use crate::values::{cost_at, point};
 use boxed_problem::column_value;
-use put_words::{plus, times};
-use sp_model::{Plan, Run};
+use sp_model::{Plan, Run, factor};
+use wide_num::{plus, times};
 
 // The cost of a column in a scenario, times the scale and the weight.
 fn line_at(run: &Run, scenario: u32, column: u32) -> i128

@@ -5,7 +5,6 @@ ghost use Rattle.std.specs.Result.{result_err};
 ghost use Rattle.base_words.specs.FirstAnswers.{first_some};
 ghost use Rattle.boxed_problem.specs.Points.{InBox};
 ghost use Rattle.boxed_problem.specs.Sides.{side_at};
-ghost use Rattle.run_calls.specs.MultiplierTests.{is_of_stage};
 ghost use Rattle.sp_model.specs.Changes.{sides};
 ghost use Rattle.sp_model.specs.Plans.{IsPlan, point_of};
 ghost use Rattle.sp_model.specs.Problems.{scenarios};
@@ -16,6 +15,7 @@ use crate::activities::activity;
 use crate::failure::NoPlan;
 use crate::values::{limits_at, point};
 use boxed_problem::{Side, is_met};
+use run_calls::{is_of_stage, members};
 use sp_model::{Plan, Run};
 
 // The value of a scenario in a column.
@@ -138,26 +138,6 @@ fn test_points(run: &Run, plan: &Plan) -> Result<(), NoPlan>
         }
     }
     Ok(())
-}
-
-// The scenarios of a node, of which there is one at least.
-fn members(run: &Run, node: u32) -> &[u32]
-    requires { node < length run.now.program.tree.nodes }
-    ensures value { result.now ≡ scenarios_at run.now.program.tree.nodes node }
-    ensures some { 0 < length result.now }
-    ensures there { All (λ s. s < scenarios run.now) result.now }
-{
-    run.program.tree.scenarios(node).as_slice()
-}
-
-// Whether a column is of the stage of a node.
-fn is_of_stage(run: &Run, node: u32, column: u32) -> bool
-    requires node { node < length run.now.program.tree.nodes }
-    requires column { column < length run.now.program.columns }
-    ensures { result ≡ is_of_stage run.now node column }
-{
-    run.program.columns.as_slice()[column as usize].stage
-        == run.program.tree.nodes.as_slice()[node as usize].stage
 }
 
 // Whether two values are the same.

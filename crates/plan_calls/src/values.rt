@@ -4,12 +4,11 @@ ghost use Rattle.base_words.specs.Sums.{number_at};
 ghost use Rattle.boxed_problem.specs.BoxedFacts.{limits_at};
 ghost use Rattle.sp_model.specs.Changes.{core_data};
 ghost use Rattle.sp_model.specs.Plans.{point_of};
-ghost use Rattle.sp_model.specs.Problems.{data_at, factor_of, scenario_at, scenarios};
+ghost use Rattle.sp_model.specs.Problems.{data_at, scenario_at, scenarios};
 ghost use Rattle.sp_model.specs.Values.{cell_in, is_cell};
 ghost use Rattle.plan_calls.specs.LookUps.{cost_with, limits_with};
 
 use boxed_problem::{Entry, Limits};
-use put_words::times;
 use sp_model::{Change, Plan, Program, Run};
 
 /// The changes of a scenario.
@@ -28,17 +27,6 @@ pub fn point(plan: &Plan, scenario: u32) -> &[i64]
     ensures { result.now ≡ point_of plan.now scenario }
 {
     plan.points.as_slice()[scenario as usize].as_slice()
-}
-
-/// By what the costs of a scenario are multiplied.
-pub fn factor(run: &Run, scenario: u32) -> i128
-    requires { scenario < scenarios run.now }
-    ensures { result ≡ factor_of run.now scenario }
-{
-    times(
-        run.options.scale,
-        run.program.scenarios.as_slice()[scenario as usize].weight,
-    )
 }
 
 // The cost that a change gives a column, else the one before.

@@ -2,9 +2,10 @@
 use Rattle.std.proofs.Common.{arith, refl, ap, sym, ◌∙◌, ◌≡◌, ℕ, zero, suc, ◌≤◌, ◌<◌, List, [], ◌∷◌, ◌++◌, length, slice_set}
 use Rattle.boxed_problem.specs.Sides.{side_at}
 use Rattle.boxed_problem.specs.declared.parts.Side.{Side}
+use Rattle.std.proofs.lemmas.List.{length_push}
 use Rattle.propagate.specs.Spans.{place_at}
 use Rattle.propagate.specs.Trails.{IsAsBefore, KeepsAllMarks, KeepsMarks, undone_to}
-use Rattle.propagate.proofs.SpanLaws.{pushed_before, pushed_last, pushed_long}
+use Rattle.propagate.proofs.SpanLaws.{pushed_before, pushed_last}
 use Rattle.propagate.specs.declared.changes.Change.{Change}
 use Rattle.propagate.specs.declared.trail.Trail.{Trail}
 
@@ -103,7 +104,7 @@ drop_marks_kept m old new c e s d same = record {
 -- the earlier marks, where one more is set
 mark_kept : (old new : Trail) (n : ℕ) → new.marks ≡ old.marks ++ n ∷ [] → new.sides ≡ old.sides → new.changes ≡ old.changes → new.sparse.value ≡ old.sparse.value → KeepsMarks (length old.marks) old new
 mark_kept old new n e s d same = record {
-  more = omega (arith, ap length e, pushed_long old.marks n);
+  more = omega (arith, ap length e, length_push old.marks n);
   back = λ k l. ap (λ m. undone_to m new.changes new.sides) (ap (λ ms. place_at ms k) e ∙ pushed_before old.marks n 0 k l) ∙ (ap (λ cs. undone_to (place_at old.marks k) cs new.sides) d ∙ ap (λ sides. undone_to (place_at old.marks k) old.changes sides) s);
   sparse = same;
 }

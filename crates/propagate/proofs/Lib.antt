@@ -4,6 +4,6 @@ mod Mixed
 pub mod RangeLaws
 mod RangingLaws
 pub mod Setting
-mod SpanLaws
+pub mod SpanLaws
 pub mod TightLaws
 pub mod Widening

@@ -1,5 +1,6 @@
 -- The activity at a point of a box lies in the row's range, so a row that is missed is missed everywhere.
 use Rattle.std.proofs.Common.{arith, refl, ap, subst, ◌≡◌, ℕ, zero, suc, ◌*◌, ◌<◌, ◌≤◌, ◌==◌, Bool, true, false, not, ◌&&◌, ◌||◌, List, [], ◌∷◌, ℤ, pos, ◌+ℤ◌, ◌*ℤ◌, ◌≤ℤ◌, Option, Some, None, if◌then◌else◌, nat_lt, unsigned_abs}
+use Rattle.std.proofs.lemmas.Bool.{and_from, or_from}
 use Rattle.std.proofs.lemmas.Int.{ints, clamps, unsigned_abs-mul}
 use Rattle.std.proofs.Math.Nat.{mul-le-mul_left}
 use Rattle.std.specs.Int.{int_max, int_min}
@@ -15,8 +16,8 @@ use Rattle.boxed_problem.specs.declared.parts.Side.{Side}
 use Rattle.boxed_problem.proofs.Lying.{Single, single_at}
 use Rattle.boxed_problem.proofs.Lying.{Lies}
 use Rattle.base_words.proofs.Products.{times_between}
-use Rattle.base_words.proofs.Comparisons.{both, both_left, both_right, most_from_test, not_not, test_from_most}
-use Rattle.base_words.proofs.Booleans.{either_false, or_left, or_right, or_right_true}
+use Rattle.base_words.proofs.Comparisons.{both_left, both_right, most_from_test, not_not, test_from_most}
+use Rattle.base_words.proofs.Booleans.{or_left, or_right, or_right_true}
 
 -- sums of parts in order are in order
 pub fold_order : {E : Type 0} (f g : E → ℤ) → ((e : E) → f e ≤ℤ g e) → (a b : ℤ) (es : List E) → a ≤ℤ b → fold (λ s e. s +ℤ f e) a es ≤ℤ fold (λ s e. s +ℤ g e) b es
@@ -51,7 +52,7 @@ below_less (Some u) a b h e = let k = most_from_test b u e in test_from_most a u
 -- a range with a number in the limits doesn't miss them
 met_not_missed : (limits : Limits) (low high a : ℤ) → low ≤ℤ a → a ≤ℤ high → meets limits a ≡ true → misses limits low high ≡ false
 met_not_missed limits low high a h k e =
-    ap not (both (is_above limits.lower high) (is_below limits.upper low)
+    ap not (and_from (is_above limits.lower high) (is_below limits.upper low)
     (above_more limits.lower a high k (both_left (is_above limits.lower a) (is_below limits.upper a) e))
     (below_less limits.upper low a h (both_right (is_above limits.lower a) (is_below limits.upper a) e)))
 
@@ -59,7 +60,7 @@ met_not_missed limits low high a h k e =
 not_missed_met : (limits : Limits) (low high a : ℤ) → low ≤ℤ a → a ≤ℤ high → high ≤ℤ low → misses limits low high ≡ false → meets limits a ≡ true
 not_missed_met limits low high a h k l e =
     let t = not_not (is_above limits.lower high && is_below limits.upper low) e in
-    both (is_above limits.lower a) (is_below limits.upper a)
+    and_from (is_above limits.lower a) (is_below limits.upper a)
     (above_more limits.lower high a (omega (arith, ints)) (both_left (is_above limits.lower high) (is_below limits.upper low) t))
     (below_less limits.upper a low (omega (arith, ints)) (both_right (is_above limits.lower high) (is_below limits.upper low) t))
 
@@ -68,7 +69,7 @@ pub rows_not_missed : (n : ℕ) (rows : List Limits) (entries : List Entry) (box
 rows_not_missed zero rows entries box x h e = refl
 rows_not_missed (suc n) rows entries box x h e =
     let r = range_holds entries box x n h in
-    either_false (misses_one n rows entries box) (misses (limits_at rows n) (low_activity entries box n) (high_activity entries box n))
+    or_from (misses_one n rows entries box) (misses (limits_at rows n) (low_activity entries box n) (high_activity entries box n))
     (rows_not_missed n rows entries box x h (both_left (meets_rows n rows entries x) (meets (limits_at rows n) (activity entries x n)) e))
     (met_not_missed (limits_at rows n) (low_activity entries box n) (high_activity entries box n) (activity entries x n) r.0 r.1 (both_right (meets_rows n rows entries x) (meets (limits_at rows n) (activity entries x n)) e))
 
@@ -103,7 +104,7 @@ single_met zero rows entries box x h l e = refl
 single_met (suc n) rows entries box x h l e =
     let r = range_holds entries box x n l in
     let s = fold_order (high_part box n) (low_part box n) (λ d. single_parts box n d h) (pos 0) (pos 0) entries (omega (arith, ints)) in
-    both (meets_rows n rows entries x) (meets (limits_at rows n) (activity entries x n))
+    and_from (meets_rows n rows entries x) (meets (limits_at rows n) (activity entries x n))
     (single_met n rows entries box x h l (or_left (misses_one n rows entries box) (misses (limits_at rows n) (low_activity entries box n) (high_activity entries box n)) e))
     (not_missed_met (limits_at rows n) (low_activity entries box n) (high_activity entries box n) (activity entries x n) r.0 r.1 s
     (or_right (misses_one n rows entries box) (misses (limits_at rows n) (low_activity entries box n) (high_activity entries box n)) e))

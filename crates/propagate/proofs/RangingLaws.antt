@@ -1,41 +1,35 @@
 -- The ranges of rows, while a column's side is changed.
 use Rattle.std.proofs.Common.{arith, refl, ap, sym, subst, inl, inr, ◌∙◌, ◌≡◌, ◌⊎◌, ℕ, ◌+◌, ◌*◌, ◌^◌, ◌==◌, ◌<◌, ◌≤◌, Bool, true, false, nat_le, nat_lt, List, [], ◌∷◌, ◌++◌, length, slice_set, get_or, ℤ, pos, ◌+ℤ◌, ◌-ℤ◌, ◌*ℤ◌, unsigned_abs, FitsSigned, if◌then◌else◌}
 use Rattle.std.proofs.lemmas.Int.{ints, unsigned_abs-mul}
+use Rattle.std.proofs.lemmas.List.{length_push}
+use Rattle.std.proofs.lemmas.List.Elements.{All-push}
 use Rattle.std.proofs.lemmas.List.Sums.{get_or-le-sum_by}
 use Rattle.std.proofs.Math.Nat.{mul-le-mul_left}
 use Rattle.std.specs.Int.{w128, int_max, int_min}
 use Rattle.std.specs.List.{All, sum_by}
 use Rattle.boxed_problem.specs.BoxedFacts.{entry_at, entry_size, no_entry, row_size}
 use Rattle.propagate.specs.Ranges.{high_part, low_part}
-use Rattle.boxed_problem.specs.Sides.{reach, side_at}
+use Rattle.boxed_problem.specs.Sides.{no_side, reach, side_at}
 use Rattle.boxed_problem.specs.declared.parts.Entry.{Entry}
 use Rattle.boxed_problem.specs.declared.parts.Limits.{Limits}
 use Rattle.propagate.specs.declared.range.Range.{Range}
 use Rattle.boxed_problem.specs.declared.parts.Side.{Side}
 use Rattle.boxed_problem.proofs.Lying.{side_reach}
 use Rattle.base_words.proofs.Magnitudes.{abs-add, fits_from_abs, abs-less}
-use Rattle.base_words.proofs.NumberTests.{test_from_same}
+use Rattle.base_words.proofs.NumberTests.{test_from_other, test_from_same}
 use Rattle.boxed_problem.proofs.Narrower.{entry_size-reach}
 use Rattle.propagate.proofs.RangeLaws.{high_part-size, low_part-size, abs-min, abs-max}
 use Rattle.propagate.specs.Ranged.{AreRanges, IsInside, IsTrail, high_end, low_end, moved, no_range, range_at}
 use Rattle.propagate.specs.Spans.{IsBorder, IsSparse, place_at}
 use Rattle.propagate.specs.declared.changes.Change.{Change}
-use Rattle.propagate.proofs.Setting.{same_or_not, set_at, set_not_at}
-use Rattle.propagate.proofs.Mixed.{fold_summed, mixed, mixed-abs, mixed_end, mixed_next, mixed_start}
-use Rattle.propagate.proofs.SpanLaws.{item_not_set, item_set, items_long, pushed_before, pushed_last, pushed_long}
+use Rattle.propagate.proofs.Mixed.{mixed, mixed-abs, mixed_end, mixed_next, mixed_start}
+use Rattle.propagate.proofs.SpanLaws.{item_not_set, item_set, items_long, pushed_before, pushed_last, same_or_not}
 
 -- the parts of an entry of another column stay
 parts_stay : (sides : List Side) (j : ℕ) (s : Side) (i : ℕ) (e : Entry) → (e.column ≡ j → ⊥) → (low_part sides i e ≡ low_part (slice_set sides j s) i e) × (high_part sides i e ≡ high_part (slice_set sides j s) i e)
 parts_stay sides j s i e n =
-    let p = sym (set_not_at sides j e.column s n) in
+    let p = sym (item_not_set sides j e.column s no_side n) in
     (ap (λ t. if e.row == i then int_min (e.value *ℤ t.lower) (e.value *ℤ t.upper) else pos 0) p, ap (λ t. if e.row == i then int_max (e.value *ℤ t.lower) (e.value *ℤ t.upper) else pos 0) p)
-
-other_test : (a b : ℕ) → (a ≡ b → ⊥) → (a == b) ≡ false
-other_test a b n = by_test (a == b) refl
-  where
-    by_test : (t : Bool) → (a == b) ≡ t → t ≡ false
-    by_test true e = let d : a ≡ b = grind arith in absurd (n d)
-    by_test false e = refl
 
 -- the parts of an entry of the row are its ends
 pub parts_here : (sides : List Side) (i j : ℕ) (s : Side) (e : Entry) → e.row ≡ i → e.column ≡ j → side_at sides j ≡ s → (low_part sides i e ≡ low_end e.value s) × (high_part sides i e ≡ high_end e.value s)
@@ -49,7 +43,7 @@ parts_here sides i j s e r h d =
 -- the parts of an entry of another row are 0
 parts_other : (sides : List Side) (i : ℕ) (e : Entry) → (e.row ≡ i → ⊥) → (low_part sides i e ≡ pos 0) × (high_part sides i e ≡ pos 0)
 parts_other sides i e n =
-    let t = other_test e.row i n in (
+    let t = test_from_other e.row i n in (
       ap (λ q. if q then int_min (e.value *ℤ (side_at sides e.column).lower) (e.value *ℤ (side_at sides e.column).upper) else pos 0) t,
       ap (λ q. if q then int_max (e.value *ℤ (side_at sides e.column).lower) (e.value *ℤ (side_at sides e.column).upper) else pos 0) t,
     )
@@ -74,9 +68,7 @@ moving_start n entries old j s k ranges border are = record {
       let r = are.all i l in
       let low = mixed_start (low_part old i) (low_part (slice_set old j s) i) entries k no_entry (λ m a b. (parts_stay old j s i (entry_at entries m) (λ e. let c = border.before m a in absurd (omega (arith, c, e)))).0) in
       let high = mixed_start (high_part old i) (high_part (slice_set old j s) i) entries k no_entry (λ m a b. (parts_stay old j s i (entry_at entries m) (λ e. let c = border.before m a in absurd (omega (arith, c, e)))).1) in
-      let f = fold_summed (low_part old i) (pos 0) entries in
-      let g = fold_summed (high_part old i) (pos 0) entries in
-      record { low = omega (arith, ints, r.low, low, f); high = omega (arith, ints, r.high, high, g) };
+      record { low = omega (arith, ints, r.low, low); high = omega (arith, ints, r.high, high) };
 }
 
 -- behind the column's entries
@@ -87,9 +79,7 @@ moving_end n entries old j s k to ranges border past are = record {
       let r = are.all i l in
       let low = mixed_end (low_part old i) (low_part (slice_set old j s) i) entries k no_entry (λ m a b. (parts_stay old j s i (entry_at entries m) (λ e. let c = border.behind m (omega arith) b in absurd (omega (arith, c, e)))).0) in
       let high = mixed_end (high_part old i) (high_part (slice_set old j s) i) entries k no_entry (λ m a b. (parts_stay old j s i (entry_at entries m) (λ e. let c = border.behind m (omega arith) b in absurd (omega (arith, c, e)))).1) in
-      let f = fold_summed (low_part (slice_set old j s) i) (pos 0) entries in
-      let g = fold_summed (high_part (slice_set old j s) i) (pos 0) entries in
-      record { low = omega (arith, ints, r.low, low, f); high = omega (arith, ints, r.high, high, g) };
+      record { low = omega (arith, ints, r.low, low); high = omega (arith, ints, r.high, high) };
 }
 
 -- one entry of the column
@@ -111,7 +101,7 @@ moving_next n entries old j s k ranges l below here inside are = record {
     same_row i m d =
         let r = are.all i m in
         let p = parts_here old i j (side_at old j) e (sym d) here refl in
-        let q = parts_here (slice_set old j s) i j s e (sym d) here (set_at old j s inside) in
+        let q = parts_here (slice_set old j s) i j s e (sym d) here (item_set old j s no_side inside) in
         let low = mixed_next (low_part old i) (low_part (slice_set old j s) i) entries k no_entry l in
         let high = mixed_next (high_part old i) (high_part (slice_set old j s) i) entries k no_entry l in
         let put : range_at (slice_set ranges e.row next) i ≡ next = ap (λ z. range_at (slice_set ranges e.row next) z) d ∙ item_set ranges e.row next no_range (omega (arith, are.long, below)) in
@@ -202,8 +192,8 @@ pub inside_set : (columns sides : List Side) (j : ℕ) (s : Side) → j < length
 inside_set columns sides j s l h i k = by_place (same_or_not k j)
   where
     by_place : (k ≡ j) ⊎ (k ≡ j → ⊥) → IsInside (side_at (slice_set sides j s) k) (side_at columns k)
-    by_place (inl e) = subst (λ m. IsInside (side_at (slice_set sides j s) m) (side_at columns m)) (sym e) (subst (λ t. IsInside t (side_at columns j)) (sym (set_at sides j s l)) i)
-    by_place (inr n) = subst (λ t. IsInside t (side_at columns k)) (sym (set_not_at sides j k s n)) (h k)
+    by_place (inl e) = subst (λ m. IsInside (side_at (slice_set sides j s) m) (side_at columns m)) (sym e) (subst (λ t. IsInside t (side_at columns j)) (sym (item_set sides j s no_side l)) i)
+    by_place (inr n) = subst (λ t. IsInside t (side_at columns k)) (sym (item_not_set sides j k s no_side n)) (h k)
 
 -- a row's entries fit
 pub row_small : (columns : List Side) (rows : List Limits) (entries : List Entry) (i : ℕ) → row_size columns rows entries i ≤ 2 ^ 122 → sum_by (entry_size columns i) entries ≤ 2 ^ 122
@@ -250,17 +240,10 @@ at_entry columns rows entries starts firsts nexts j k facts l a b =
 
 -- places before an item behind
 pub all_before : {A : Type 0} (P : A → Type 0) (xs : List A) (x : A) → All P (xs ++ x ∷ []) → All P xs × P x
-all_before P xs x h = (λ i d l. subst P (get_before xs x d i l) (h i d (omega (arith, pushed_long xs x))), subst P (pushed_last xs x x (length xs) refl) (h (length xs) x (omega (arith, pushed_long xs x))))
+all_before P xs x h = (λ i d l. subst P (get_before xs x d i l) (h i d (omega (arith, length_push xs x))), subst P (pushed_last xs x x (length xs) refl) (h (length xs) x (omega (arith, length_push xs x))))
   where
     get_before : {A : Type 0} (xs : List A) (x d : A) (k : ℕ) → k < length xs → get_or (xs ++ x ∷ []) k d ≡ get_or xs k d
     get_before xs x d k l = pushed_before xs x d k l
-
-pub all_behind : {A : Type 0} (P : A → Type 0) (xs : List A) (x : A) → All P xs → P x → All P (xs ++ x ∷ [])
-all_behind {A = A} P xs x h p = λ i d l. by_place i d l (nat_lt i (length xs)) refl
-  where
-    by_place : (i : ℕ) (d : A) → i < length (xs ++ x ∷ []) → (t : Bool) → nat_lt i (length xs) ≡ t → P (get_or (xs ++ x ∷ []) i d)
-    by_place i d l true e = let m : i < length xs = grind arith in subst P (sym (pushed_before xs x d i m)) (h i d m)
-    by_place i d l false e = let m : i ≡ length xs = (let n : length xs ≤ i = grind arith in omega (arith, l, n, pushed_long xs x)) in subst P (sym (pushed_last xs x d i m)) p
 
 -- a side in one that lies in a third
 pub inside_trans : (a b c : Side) → IsInside a b → IsInside b c → IsInside a c
@@ -272,8 +255,8 @@ pub trail_put : (columns : List Side) (n : ℕ) (entries : List Entry) (sides : 
 trail_put columns n entries sides changes marks ranges now j s t l i are = record {
   long = items_long sides j s ∙ t.long;
   inside = inside_set columns sides j s l t.inside i;
-  olds = all_behind (λ c. (c.column < length columns) × IsInside c.old (side_at columns c.column)) changes (record { column = j; old = side_at sides j }) t.olds (omega (arith, l, t.long), t.inside j);
-  made = λ k m. omega (arith, t.made k m, pushed_long changes (record { column = j; old = side_at sides j }));
+  olds = All-push (λ c. (c.column < length columns) × IsInside c.old (side_at columns c.column)) changes (record { column = j; old = side_at sides j }) t.olds (omega (arith, l, t.long), t.inside j);
+  made = λ k m. omega (arith, t.made k m, length_push changes (record { column = j; old = side_at sides j }));
   rising = t.rising;
   are = are;
 }
@@ -284,8 +267,8 @@ trail_kept : (columns : List Side) (n : ℕ) (entries : List Entry) (sides : Lis
 trail_kept columns n entries sides changes marks ranges j t l = record {
   long = t.long;
   inside = t.inside;
-  olds = all_behind (λ c. (c.column < length columns) × IsInside c.old (side_at columns c.column)) changes (record { column = j; old = side_at sides j }) t.olds (omega (arith, l, t.long), t.inside j);
-  made = λ k m. omega (arith, t.made k m, pushed_long changes (record { column = j; old = side_at sides j }));
+  olds = All-push (λ c. (c.column < length columns) × IsInside c.old (side_at columns c.column)) changes (record { column = j; old = side_at sides j }) t.olds (omega (arith, l, t.long), t.inside j);
+  made = λ k m. omega (arith, t.made k m, length_push changes (record { column = j; old = side_at sides j }));
   rising = t.rising;
   are = t.are;
 }
@@ -306,7 +289,7 @@ trail_undone columns n entries sides changes rest last marks ranges now e t olde
       long = items_long sides last.column last.old ∙ t.long;
       inside = inside_set columns sides last.column last.old (omega (arith, both.1.0, t.long)) t.inside both.1.1;
       olds = both.0;
-      made = λ k m. omega (arith, older k m, ap length e, pushed_long rest last);
+      made = λ k m. omega (arith, older k m, ap length e, length_push rest last);
       rising = t.rising;
       are = are;
     }
@@ -328,14 +311,14 @@ trail_marked columns n entries sides changes marks ranges m t e = record {
       where
         by_mark : (u : Bool) → nat_lt k (length marks) ≡ u → place_at (marks ++ m ∷ []) k ≤ length changes
         by_mark true d = let b : k < length marks = grind arith in omega (arith, pushed_before marks m 0 k b, t.made k b)
-        by_mark false d = let b : k ≡ length marks = (let a : length marks ≤ k = grind arith in omega (arith, l, a, pushed_long marks m)) in omega (arith, e, pushed_last marks m 0 k b)
+        by_mark false d = let b : k ≡ length marks = (let a : length marks ≤ k = grind arith in omega (arith, l, a, length_push marks m)) in omega (arith, e, pushed_last marks m 0 k b)
 
     by_place : (i k : ℕ) → i ≤ k → k < length (marks ++ m ∷ []) → (u : Bool) → nat_lt k (length marks) ≡ u → place_at (marks ++ m ∷ []) i ≤ place_at (marks ++ m ∷ []) k
     by_place i k l b true d =
         let short : k < length marks = grind arith in
         omega (arith, pushed_before marks m 0 k short, pushed_before marks m 0 i (omega (arith, l, short)), t.rising i k l short)
     by_place i k l b false d =
-        let last : k ≡ length marks = (let a : length marks ≤ k = grind arith in omega (arith, b, a, pushed_long marks m)) in
+        let last : k ≡ length marks = (let a : length marks ≤ k = grind arith in omega (arith, b, a, length_push marks m)) in
         omega (arith, e, pushed_last marks m 0 k last, made i (omega (arith, l, b)))
 
 -- the last mark less
@@ -347,7 +330,7 @@ trail_dropped columns n entries sides changes marks rest last ranges e t =
       long = s.long;
       inside = s.inside;
       olds = s.olds;
-      made = λ k l. omega (arith, s.made k (omega (arith, l, pushed_long rest last)), pushed_before rest last 0 k l);
-      rising = λ i k l b. omega (arith, s.rising i k l (omega (arith, b, pushed_long rest last)), pushed_before rest last 0 k b, pushed_before rest last 0 i (omega (arith, l, b)));
+      made = λ k l. omega (arith, s.made k (omega (arith, l, length_push rest last)), pushed_before rest last 0 k l);
+      rising = λ i k l b. omega (arith, s.rising i k l (omega (arith, b, length_push rest last)), pushed_before rest last 0 k b, pushed_before rest last 0 i (omega (arith, l, b)));
       are = s.are;
     }

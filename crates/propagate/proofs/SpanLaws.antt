@@ -3,7 +3,16 @@ use Rattle.std.proofs.Common.{arith, refl, ap, sym, subst, inl, inr, ◌∙◌, 
 use Rattle.boxed_problem.specs.BoxedFacts.{ComesBefore, entry_at}
 use Rattle.boxed_problem.specs.declared.parts.Entry.{Entry}
 use Rattle.propagate.specs.Spans.{IsBorder, IsFirst, place_at}
-use Rattle.propagate.proofs.Setting.{same_or_not}
+
+-- whether two numbers are the same
+pub same_or_not : (k j : ℕ) → (k ≡ j) ⊎ (k ≡ j → ⊥)
+same_or_not zero zero = inl refl
+same_or_not zero (suc j) = inr (λ e. absurd (omega (arith, e)))
+same_or_not (suc k) zero = inr (λ e. absurd (omega (arith, e)))
+same_or_not (suc k) (suc j) = elim (same_or_not k j) [
+  | inl e ↦ inl (ap suc e)
+  | inr f ↦ inr (λ e. f (omega (arith, e)))
+]
 
 -- lists with another item put in
 pub item_set : {A : Type 0} (xs : List A) (j : ℕ) (x d : A) → j < length xs → slice_index_or (slice_set xs j x) j d ≡ x
@@ -24,10 +33,6 @@ items_long (y ∷ xs) zero x = refl
 items_long (y ∷ xs) (suc j) x = ap suc (items_long xs j x)
 
 -- lists with another item behind
-pub pushed_long : {A : Type 0} (xs : List A) (x : A) → length (xs ++ x ∷ []) ≡ length xs + 1
-pushed_long [] x = refl
-pushed_long (y ∷ xs) x = omega (arith, pushed_long xs x)
-
 pub pushed_last : {A : Type 0} (xs : List A) (x d : A) (k : ℕ) → k ≡ length xs → slice_index_or (xs ++ x ∷ []) k d ≡ x
 pushed_last [] x d zero e = refl
 pushed_last [] x d (suc k) e = absurd (omega (arith, e))

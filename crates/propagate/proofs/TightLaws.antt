@@ -5,7 +5,7 @@ use Rattle.std.proofs.Math.Nat.{mul-le-mul_left}
 use Rattle.std.specs.Int.{w128}
 use Rattle.std.specs.List.{sum_by}
 use Rattle.boxed_problem.specs.Data.{Problem}
-use Rattle.boxed_problem.specs.BoxedFacts.{entry_at, entry_size, limit_size, limits_at, limits_size, no_entry}
+use Rattle.boxed_problem.specs.BoxedFacts.{entry_at, entry_size, limits_at, limits_size, no_entry}
 use Rattle.boxed_problem.specs.Points.{InBox}
 use Rattle.propagate.specs.Ranges.{high_activity, high_part, low_activity, low_part, misses}
 use Rattle.boxed_problem.specs.Rows.{activity, activity_part, is_above, is_below, meets_rows}
@@ -18,9 +18,10 @@ use Rattle.propagate.specs.declared.range.Range.{Range}
 use Rattle.boxed_problem.specs.declared.parts.Side.{Side}
 use Rattle.base_words.proofs.Comparisons.{both_left, both_right, most_from_test, not_not}
 use Rattle.base_words.proofs.Magnitudes.{less_fits}
+use Rattle.base_words.specs.Signs.{limit_size}
 use Rattle.boxed_problem.proofs.FixingLaws.{set_within}
 use Rattle.boxed_problem.proofs.Listing.{in_on}
-use Rattle.boxed_problem.proofs.Lying.{filled_at, on_lies, side_reach, within_at, within_self, within_trans}
+use Rattle.boxed_problem.proofs.Lying.{filled_at, on_lies, within_at, within_reach, within_self, within_trans}
 use Rattle.propagate.proofs.RangeLaws.{parts_hold, row_missed, rows_not_missed}
 use Rattle.boxed_problem.proofs.RowTests.{row_met}
 use Rattle.propagate.specs.SparseParts.{IsOf}
@@ -37,7 +38,7 @@ use Rattle.propagate.proofs.Backing.{all_marks_trans, before_marks, marks_same}
 use Rattle.boxed_problem.specs.declared.problem.Boxed.{Boxed}
 use Rattle.propagate.proofs.Setting.{in_set}
 use Rattle.propagate.proofs.Widening.{high_falls, low_rises}
-use Rattle.propagate.proofs.Mixed.{fold_summed, mixed_start, one_part}
+use Rattle.propagate.proofs.Mixed.{mixed_start, one_part}
 use Rattle.propagate.proofs.RangingLaws.{IsMoving, moving_small, parts_here, product_small, row_small}
 
 filled_all : (box : List Side) → ((j : ℕ) → (side_at box j).lower ≤ℤ (side_at box j).upper) → Filled box
@@ -97,18 +98,13 @@ column_below m t s k l = omega (arith, (m.facts.places k no_entry l).1, (facts_o
 inside_of : (sides columns : List Side) → Within sides columns → (j : ℕ) → IsInside (side_at sides j) (side_at columns j)
 inside_of sides columns w j = let a = within_at sides columns w j in record { lower = a.0; filled = filled_at sides w.filled j; upper = a.1 }
 
-reach_within : (inner outer : List Side) (j : ℕ) → Within inner outer → reach (side_at inner j) ≤ reach (side_at outer j)
-reach_within inner outer j w = let a = inside_of inner outer w j in side_reach (side_at inner j) (side_at outer j) a.lower a.filled a.upper
-
 -- a row's range is no greater than the row
 range_within : (columns : List Side) (entries : List Entry) (sides : List Side) (i : ℕ) (range : Range) → ((j : ℕ) → IsInside (side_at sides j) (side_at columns j)) → sum_by (entry_size columns i) entries ≤ 2 ^ 122 → IsRange entries sides i range →
     (unsigned_abs range.low ≤ 2 ^ 122) × (unsigned_abs range.high ≤ 2 ^ 122)
 range_within columns entries sides i range inside fit r =
-    let low = fold_summed (low_part sides i) (pos 0) entries in
-    let high = fold_summed (high_part sides i) (pos 0) entries in
     let zl = mixed_start (low_part sides i) (low_part sides i) entries 0 no_entry (λ k a b. refl) in
     let zh = mixed_start (high_part sides i) (high_part sides i) entries 0 no_entry (λ k a b. refl) in
-    let moving : IsMoving entries sides sides 0 i range = record { low = omega (arith, ints, r.low, low, zl); high = omega (arith, ints, r.high, high, zh) } in
+    let moving : IsMoving entries sides sides 0 i range = record { low = omega (arith, ints, r.low, zl); high = omega (arith, ints, r.high, zh) } in
     moving_small columns entries sides sides 0 i range inside inside fit moving
 
 range_small : (m : Sparse) (t : Trail) (s : m ≡ t.sparse.value) (i : ℕ) → i < length m.rows → (unsigned_abs (range_at t.ranges i).low ≤ 2 ^ 122) × (unsigned_abs (range_at t.ranges i).high ≤ 2 ^ 122)
@@ -157,11 +153,9 @@ value_above rows entries sides low k u x l row range lim i met =
     let is = row_met (length rows) rows entries x e.row met row in
     let most : activity entries x e.row ≤ℤ u = most_from_test (activity entries x e.row) u (subst (λ o. is_below o (activity entries x e.row) ≡ true) lim (both_right (is_above (limits_at rows e.row).lower (activity entries x e.row)) (is_below (limits_at rows e.row).upper (activity entries x e.row)) is)) in
     let one' = one_part (low_part sides e.row) (activity_part x e.row) (λ d. (parts_hold sides x e.row d lies).0) entries k no_entry l in
-    let least = fold_summed (low_part sides e.row) (pos 0) entries in
-    let act = fold_summed (activity_part x e.row) (pos 0) entries in
     let here = (parts_here sides e.row e.column (side_at sides e.column) e refl refl refl).0 in
     let part = part_is x e in
-    omega (arith, ints, most, one', least, act, here, part, range)
+    omega (arith, ints, most, one', here, part, range)
 
 value_below : (rows : List Limits) (entries : List Entry) (sides : List Side) (high : ℤ) (k : ℕ) (u : ℤ) (x : List ℤ) → k < length entries → (entry_at entries k).row < length rows → high_activity entries sides (entry_at entries k).row ≤ℤ high →
     (limits_at rows (entry_at entries k).row).lower ≡ Some u → InBox sides x → meets_rows (length rows) rows entries x ≡ true →
@@ -172,11 +166,9 @@ value_below rows entries sides high k u x l row range lim i met =
     let is = row_met (length rows) rows entries x e.row met row in
     let most : u ≤ℤ activity entries x e.row = most_from_test u (activity entries x e.row) (subst (λ o. is_above o (activity entries x e.row) ≡ true) lim (both_left (is_above (limits_at rows e.row).lower (activity entries x e.row)) (is_below (limits_at rows e.row).upper (activity entries x e.row)) is)) in
     let one' = one_part (activity_part x e.row) (high_part sides e.row) (λ d. (parts_hold sides x e.row d lies).1) entries k no_entry l in
-    let most_part = fold_summed (high_part sides e.row) (pos 0) entries in
-    let act = fold_summed (activity_part x e.row) (pos 0) entries in
     let here = (parts_here sides e.row e.column (side_at sides e.column) e refl refl refl).1 in
     let part = part_is x e in
-    omega (arith, ints, most, one', most_part, act, here, part, range)
+    omega (arith, ints, most, one', here, part, range)
 
 -- a side cut by the slack of a row's upper limit above the low end of a range that holds the row's
 pub cut_is_above : (rows : List Limits) (entries : List Entry) (sides : List Side) (low : ℤ) (k : ℕ) (u : ℤ) (new : Side) → k < length entries → (entry_at entries k).row < length rows → (entry_at entries k).column < length sides →
@@ -308,7 +300,7 @@ ready_stays rows entries old new k range w h =
       low_small = h.low_small;
       high_small = h.high_small;
       limits_small = h.limits_small;
-      entry_small = (let r = reach_within new old e.column w in let p = mul-le-mul_left (unsigned_abs e.value) r in omega (arith, p, h.entry_small));
+      entry_small = (let r = within_reach new old w e.column in let p = mul-le-mul_left (unsigned_abs e.value) r in omega (arith, p, h.entry_small));
     }
 
 -- what holds of a list's sides where a row is answered as empty

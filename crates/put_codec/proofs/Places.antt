@@ -1,20 +1,20 @@
 -- Where the cells of each rank begin and end.
-use Rattle.std.proofs.Common.{arith, refl, sym, ap, ◌∙◌, ◌≡◌, ℕ, ◌+◌, ◌*◌, ◌-◌, ◌/◌, ◌<◌, ◌≤◌, ◌^◌, Bool, if◌then◌else◌}
+use Rattle.std.proofs.Common.{arith, ap, ◌≡◌, ℕ, ◌+◌, ◌*◌, ◌-◌, ◌/◌, ◌<◌, ◌≤◌, ◌^◌, Bool, if◌then◌else◌}
 use Rattle.std.proofs.Math.Nat.{div-le_of_le-mul, div-mul-le_self, le-div_iff_mul-le, mul-div_cancel_left, mul-le-mul}
 use Rattle.base_words.proofs.NumberTests.{test_from_less}
 use Rattle.put_codec.specs.declared.layout.Layout.{Layout}
 use Rattle.put_codec.specs.Layouts.{all_cells, cells_of, first_of, start_of, width_of}
 
-pub first_inside : (layout : Layout) (i : ℕ) → i ≤ layout.ranks → first_of layout i ≤ layout.scenarios
+first_inside : (layout : Layout) (i : ℕ) → i ≤ layout.ranks → first_of layout i ≤ layout.scenarios
 first_inside layout i l = div-le_of_le-mul layout.ranks (mul-le-mul l (omega arith))
 
-pub first_rises : (layout : Layout) (i : ℕ) → 0 < layout.ranks → first_of layout i ≤ first_of layout (i + 1)
+first_rises : (layout : Layout) (i : ℕ) → 0 < layout.ranks → first_of layout i ≤ first_of layout (i + 1)
 first_rises layout i some =
     let more : i * layout.scenarios ≤ (i + 1) * layout.scenarios = mul-le-mul (omega arith) (omega arith) in
     let low = div-mul-le_self (i * layout.scenarios) layout.ranks in
     (le-div_iff_mul-le some).1 (omega arith)
 
-pub first_last : (layout : Layout) → 0 < layout.ranks → first_of layout layout.ranks ≡ layout.scenarios
+first_last : (layout : Layout) → 0 < layout.ranks → first_of layout layout.ranks ≡ layout.scenarios
 first_last layout some = mul-div_cancel_left layout.scenarios some
 
 pub start_inside : (layout : Layout) (i : ℕ) → i ≤ layout.ranks → start_of layout i ≤ all_cells layout

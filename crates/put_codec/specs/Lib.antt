@@ -7,3 +7,4 @@ pub use Rattle.put_words.specs.Puts
 pub use Rattle.sp_model.specs.Problems
 pub use Rattle.sp_model.specs.ScenarioPoints
 pub use Rattle.word_codec.specs.Spelling
+pub use Rattle.window_words.specs.Conditions

@@ -5,6 +5,8 @@ use Rattle.std.proofs.lemmas.Bool.Decides.{nat_tests}
 use mathlib.Core.Logic.{dite}
 use native.Mathlib.Decide.{ℕ_discrete}
 use Rattle.base_words.proofs.NumberTests.{less_from_test, not_less_from_test, test_from_less}
+use Rattle.stamped_read.proofs.Standing.{fit_stamp}
+use Rattle.std.proofs.lemmas.Bool.{eqb-true}
 use Rattle.window_words.specs.Views.{add_once, after, ended, is_whole, last_of, with_accepted, with_reading}
 use Rattle.window_words.specs.declared.views.View.{View}
 use Rattle.window_words.specs.declared.views.Reading.{Reading}
@@ -20,19 +22,13 @@ fit_even r n e = grind (arith, nat_tests)
 fit_first : (r : Reader) (n : ℕ) → None ≡ unfit r n → r.rank ≡ 0 → r.last < n / 2
 fit_first r n e z = grind (arith, nat_tests)
 
-fit_later : (r : Reader) (n : ℕ) → None ≡ unfit r n → 0 < r.rank → n ≡ r.first
-fit_later r n e l = grind (arith, nat_tests)
-
 -- a stamp that fits is that of an entry newer than the last
 fit_newer : (r : Reader) (n : ℕ) → None ≡ unfit r n → (0 < r.rank → IsNewer r.last r.first) → IsNewer r.last n
 fit_newer r n e h = record { even = fit_even r n e; newer = by_rank (eq-zero-or-pos r.rank) }
   where
     by_rank : (r.rank ≡ 0) ⊎ (0 < r.rank) → r.last < n / 2
     by_rank (inl z) = fit_first r n e z
-    by_rank (inr l) = let newer = (h l).newer in let same = fit_later r n e l in omega (arith, newer, ap (λ k. k / 2) same)
-
-equal : (a b : ℕ) → nat_eq a b ≡ true → a ≡ b
-equal a b e = grind (arith, nat_tests)
+    by_rank (inr l) = let newer = (h l).newer in let same = fit_stamp r n e l in omega (arith, newer, ap (λ k. k / 2) same)
 
 -- the reader's facts after a step
 module _ (r : Reader) (n : ℕ) (h : IsReader r) where
@@ -74,7 +70,7 @@ module _ (leaders : ℕ) (v : View) (r : Reader) (n : ℕ) (h : Accepts leaders 
   begin_accepts None e = record {
     wide = h.wide;
     followed = h.followed;
-    parts = λ i l. let same = fit_later r n e (omega arith) in let old = h.parts i l in omega (arith, old, ap (λ k. k / 2) same);
+    parts = λ i l. let same = fit_stamp r n e (omega arith) in let old = h.parts i l in omega (arith, old, ap (λ k. k / 2) same);
   }
   begin_accepts (Some again) e = restart_accepts
 
@@ -115,13 +111,13 @@ module _ (leaders : ℕ) (v : View) (r : Reader) (n : ℕ) (h : Accepts leaders 
   same_view true true false same newer w l = absurd (cc)
 
   whole_test : (t : Bool) → IsNewer r.last r.first → nat_eq n r.first ≡ t → is_whole r.first n ≡ t
-  whole_test true newer e = let even = newer.even in let more = newer.newer in let same = equal n r.first e in grind (arith, nat_tests)
+  whole_test true newer e = let even = newer.even in let more = newer.newer in let same = eqb-true n r.first e in grind (arith, nat_tests)
   whole_test false newer e = grind (arith, nat_tests)
 
   end_accepts : r.begun ≡ true → Accepts leaders (after leaders (call.End (window_of r)) n v).accepted (ends r n)
   end_accepts b = let newer = facts.begins_newer b in
       subst (λ (o : Option Reading). Accepts leaders (ended leaders n v o).accepted (ends r n)) (sym (reading b))
-      (same_view (nat_eq n r.first) (is_whole r.first n) (nat_lt (window_of r) leaders) (equal n r.first) newer (whole_test (nat_eq n r.first) newer refl) is_leader)
+      (same_view (nat_eq n r.first) (is_whole r.first n) (nat_lt (window_of r) leaders) (eqb-true n r.first) newer (whole_test (nat_eq n r.first) newer refl) is_leader)
 
   step_accepts : (b full : Bool) → r.begun ≡ b → Accepts leaders (after leaders (if b then due_begun full (window_of r) else call.Begin (window_of r)) n v).accepted (next (if b then due_begun full (window_of r) else call.Begin (window_of r)) r n)
   step_accepts false full e = begin_accepts (unfit r n) refl

@@ -32,7 +32,7 @@ three_are ws three i m x has e =
     at_zero : (i : ℕ) → 3 * i ≡ 3 * i + 0
     at_zero i = omega arith
 
-pub cell_once : (ws three : List ℕ) (i : ℕ) (m x n y : ℤ) → three ≡ get_or ws (3 * i) 0 ∷ get_or ws (3 * i + 1) 0 ∷ get_or ws (3 * i + 2) 0 ∷ [] → three ≡ cell_words n y → FitsSigned w128 n → FitsSigned w64 y
+cell_once : (ws three : List ℕ) (i : ℕ) (m x n y : ℤ) → three ≡ get_or ws (3 * i) 0 ∷ get_or ws (3 * i + 1) 0 ∷ get_or ws (3 * i + 2) 0 ∷ [] → three ≡ cell_words n y → FitsSigned w128 n → FitsSigned w64 y
     → FitsSigned w128 m → IsValue x → HasCell ws i m x → (n ≡ m) × (y ≡ x)
 cell_once ws three i m x n y e read fn fy fm is has =
     let same : cell_words n y ≡ cell_words m x = sym read ∙ three_are ws three i m x has e in (
@@ -61,5 +61,5 @@ module _ (put put' given : Put) (place : ℕ) (m x : ℤ) (room : HasPlaces put 
               let same : c ≡ place = omega arith in
               ap (number_at (set ys place v)) same ∙ (get_or-set_same ys place v (pos 0) (omega arith) ∙ (e ∙ ap (number_at zs) (sym same)))
 
-  pub shape_kept : put'.number ≡ put.number → KeepsShape put put'
+  shape_kept : put'.number ≡ put.number → KeepsShape put put'
   shape_kept n = record { number = n; multipliers = ap (λ (z : List ℤ). length z) ms ∙ length-set put.multipliers.values place m; x = ap (λ (z : List ℤ). length z) xs ∙ length-set put.x place x }

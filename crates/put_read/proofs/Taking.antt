@@ -17,13 +17,13 @@ pub record IsTaking (words : List ℕ) (start : ℕ) (old put : Put) (index : �
   pub shape : KeepsShape old put
   pub agrees : (given : Put) → IsSpelled given → HasCells words start given → AgreeBelow start old given → AgreeBelow (start + index) put given
 
-pub taking_begins : (words : List ℕ) (start : ℕ) (put : Put) → IsTaking words start put put 0
+taking_begins : (words : List ℕ) (start : ℕ) (put : Put) → IsTaking words start put put 0
 taking_begins words start put = record {
   shape = record { number = refl; multipliers = refl; x = refl };
   agrees = λ given spelled has old. record { multipliers = λ c l. old.multipliers c (omega arith); x = λ c l. old.x c (omega arith) };
 }
 
-pub place_free : (words : List ℕ) (start : ℕ) (old put : Put) (index : ℕ) → HasPlaces old start (length words / 3) → index < length words / 3 → IsTaking words start old put index → HasPlaces put (start + index) 1
+place_free : (words : List ℕ) (start : ℕ) (old put : Put) (index : ℕ) → HasPlaces old start (length words / 3) → index < length words / 3 → IsTaking words start old put index → HasPlaces put (start + index) 1
 place_free words start old put index room l t = let ms = t.shape.multipliers in let xs = t.shape.x in let rm = room.multipliers in let rx = room.x in record { multipliers = omega arith; x = omega arith }
 
 pub taking_more : (words : List ℕ) (start : ℕ) (old put put' : Put) (index : ℕ) (m x : ℤ) → index < length words / 3 → IsTaking words start old put index
@@ -38,7 +38,7 @@ taking_more words start old put put' index m x l t is shape more = record {
       record { multipliers = λ c h. all.multipliers c (omega arith); x = λ c h. all.x c (omega arith) };
 }
 
-pub taking_ends : (words : List ℕ) (start : ℕ) (old put : Put) (index : ℕ) → index ≡ length words / 3 → IsTaking words start old put index
+taking_ends : (words : List ℕ) (start : ℕ) (old put : Put) (index : ℕ) → index ≡ length words / 3 → IsTaking words start old put index
     → (given : Put) → IsSpelled given → HasCells words start given → AgreeBelow start old given → AgreeBelow (start + length words / 3) put given
 taking_ends words start old put index e t given spelled has before =
     let all = t.agrees given spelled has before in record { multipliers = λ c h. all.multipliers c (omega arith); x = λ c h. all.x c (omega arith) }

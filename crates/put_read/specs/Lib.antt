@@ -7,3 +7,5 @@ pub use Rattle.put_words.specs.Puts
 pub use Rattle.stamped_read.specs.Promises
 pub use Rattle.stamped_read.specs.Readers
 pub use Rattle.word_codec.specs.Spelling
+pub use Rattle.window_words.specs.Conditions
+pub use Rattle.window_words.specs.Views

@@ -1,9 +1,9 @@
 -- The node of a scenario at a stage is the only one there that has it.
 
 use Rattle.std.proofs.Common.{arith, refl, sym, ap, ◌≡◌, ℕ, zero, suc, ◌<◌, ◌==◌, ◌||◌, Bool, true, false, List, [], ◌∷◌, length, get_or}
+use Rattle.std.proofs.lemmas.Bool.{and_from}
 use Rattle.std.proofs.lemmas.List.Elements.{All-contains}
 use Rattle.std.specs.List.{All, Contains, list_any}
-use Rattle.base_words.proofs.Comparisons.{both}
 use Rattle.base_words.proofs.NumberTests.{test_from_same}
 use Rattle.tree_core.specs.Nodes.{holds, no_node, scenarios_at, StandsOnce}
 use Rattle.tree_core.proofs.OncePlaces.{once_place}
@@ -40,7 +40,7 @@ node_is run i s j l h e at =
     let nodes = run.program.tree.nodes in
     let below = All-contains (λ u. u < scenarios run) (scenarios_at nodes i) s (member_below run i l) at in
     let own = found (scenarios_at nodes i) s at.0 s at.1 at.2 in
-    let here : holds s (stage_of run j) (get_or nodes i no_node) ≡ true = both ((node_at run i).stage == stage_of run j) (list_any (λ u. u == s) (scenarios_at nodes i)) (test_from_same (node_at run i).stage (stage_of run j) (sym e)) own in
+    let here : holds s (stage_of run j) (get_or nodes i no_node) ≡ true = and_from ((node_at run i).stage == stage_of run j) (list_any (λ u. u == s) (scenarios_at nodes i)) (test_from_same (node_at run i).stage (stage_of run j) (sym e)) own in
     once_place nodes (stage_of run j) s i no_node (stands run s j below h) l here
 
 pub bundle_is : (run : Run) (i s j : ℕ) → i < length run.program.tree.nodes → j < run.nonleaf → stage_of run j ≡ (node_at run i).stage → Contains (scenarios_at run.program.tree.nodes i) s → bundle run s j ≡ scenarios_at run.program.tree.nodes i

@@ -6,13 +6,13 @@ use Rattle.std.proofs.lemmas.List.{length-map}
 use Rattle.std.proofs.lemmas.List.Elements.{All-map, recursion_from_All}
 use Rattle.std.proofs.lemmas.List.FromFn.{get_or-map-range_with_len, get_or-range_with_len, length-map-range_with_len, length-range_with_len}
 use Rattle.std.proofs.Math.IntN.{*ℤ-zero}
-use Rattle.std.proofs.Math.Nat.{mul-le-mul}
+use Rattle.std.proofs.Math.Nat.{mul_comm, mul-le-mul}
 use Rattle.std.specs.Int.{int_div_euclid}
 use Rattle.std.specs.List.{All, range_with_len, sum_by}
 use Rattle.base_words.specs.Sums.{number_at, size_below}
 use Rattle.base_words.proofs.Magnitudes.{abs-add, abs-less}
 use Rattle.base_words.proofs.Products.{times_order}
-use Rattle.base_words.proofs.SumBounds.{size_below-part, size_below-mono, size_below-add}
+use Rattle.base_words.proofs.SumBounds.{size_below-add, size_below-mono, size_below-part, size_below-times}
 use Rattle.boxed_problem.specs.Data.{Problem, problem_of}
 use Rattle.boxed_problem.specs.BoxedFacts.{column_size, IsBoxed, value_size}
 use Rattle.tree_core.specs.Nodes.{IsNode, no_node}
@@ -26,15 +26,16 @@ use Rattle.sp_model.specs.declared.plan.Multipliers.{Multipliers}
 use Rattle.sp_model.specs.declared.run.Run.{Run}
 use Rattle.sp_model.proofs.Bounds.{factor_abs, reach_parts}
 use Rattle.sp_model.proofs.DataFacts.{boxed_is}
-use Rattle.sp_model.proofs.Sizes.{greatest_le, size_below-times}
+use Rattle.sp_model.proofs.Sizes.{greatest_le}
 use Rattle.put_words.specs.Hedged.{hedged_in, hedged_line, hedged_square, pull}
 use Rattle.put_words.specs.Objectives.{with_objective}
 use Rattle.put_words.specs.NodeSums.{AreInside, bundle, node_for, sum_of, weight_at}
-use Rattle.put_words.proofs.Rises.{floor_abs, node_below, weight_above}
+use Rattle.put_words.proofs.Rises.{node_below, weight_above}
 use Rattle.sp_model.proofs.CostSpans.{cost_span, line_part, line_parts_le}
 use Rattle.put_words.proofs.Spans.{cut_le}
 use Rattle.sp_model.proofs.LeastSums.{total_abs_is, weight_size}
 use Rattle.base_words.proofs.NumberTests.{less_from_test}
+use Rattle.base_words.proofs.Quotients.{floor_small}
 use Rattle.put_words.proofs.Weights.{node_sum_abs, weight_sum}
 
 raw_is : (w r m : ℕ) → w * (w * (2 * r * m)) ≡ 2 * r * (w * w) * m
@@ -87,7 +88,8 @@ pull_abs run x s j inside l h =
     let u = sum_by (weight_size run) ns in
     let z = (pos 2 *ℤ (run.options.rho *ℤ weight_at run s)) *ℤ sum_of run x ns j in
     let weight = weight_sum run ns (recursion_from_All (λ k. k < scenarios run) ns fact.there) in
-    let bound = floor_abs z u (weight_size run s * (2 * unsigned_abs run.options.rho * box_reach run.program j)) (weight_above run ns fact.there fact.filled) (pull_numerator_abs run x ns j s inside fact.there h) in
+    let most = weight_size run s * (2 * unsigned_abs run.options.rho * box_reach run.program j) in
+    let bound = floor_small z u most (weight_above run ns fact.there fact.filled) (subst (λ k. unsigned_abs z ≤ k) (mul_comm u most) (pull_numerator_abs run x ns j s inside fact.there h)) in
     omega (arith, bound, ap (λ d. unsigned_abs (int_div_euclid z d)) weight)
 
 -- the linear and the square part of a column

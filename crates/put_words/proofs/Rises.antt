@@ -1,16 +1,16 @@
 -- How far multipliers move at most.
 
-use Rattle.std.proofs.Common.{arith, ap, ◌≡◌, ℕ, suc, ◌+◌, ◌*◌, ◌-◌, ◌/◌, ◌<◌, ◌≤◌, ◌==◌, Bool, true, false, List, length, take, get_or, ℤ, pos, negsuc, neg_ℤ, ◌-ℤ◌, ◌*ℤ◌, unsigned_abs, Some, if◌then◌else◌}
+use Rattle.std.proofs.Common.{arith, ap, subst, ◌≡◌, ℕ, suc, ◌+◌, ◌*◌, ◌-◌, ◌<◌, ◌≤◌, ◌==◌, Bool, true, false, List, length, take, get_or, ℤ, neg_ℤ, ◌-ℤ◌, ◌*ℤ◌, unsigned_abs, Some, if◌then◌else◌}
 use Rattle.std.proofs.lemmas.Int.{unsigned_abs-mul}
 use Rattle.std.proofs.lemmas.List.Elements.{All-take, recursion_from_All}
 use Rattle.std.proofs.lemmas.List.Sums.{get_or-le-sum_by, sum_by-take-le}
-use Rattle.std.proofs.lemmas.Nat.{div_below}
 use Rattle.std.proofs.Math.Nat.{mul-le-mul, mul_comm, suc-mul}
 use Rattle.std.specs.Int.{int_div_euclid}
 use Rattle.std.specs.List.{All, AllPairs, sum_by}
 use Rattle.base_words.specs.ListSums.{sum_z}
 use Rattle.base_words.proofs.Magnitudes.{abs-add, abs-less, abs_opposite}
 use Rattle.base_words.proofs.SumBounds.{size_below-part}
+use Rattle.base_words.proofs.Quotients.{floor_small}
 use Rattle.tree_core.specs.Nodes.{IsNode, no_node, scenarios_at}
 use Rattle.tree_core.proofs.Finding.{node_there}
 use Rattle.run_calls.specs.MultiplierTests.{AreSized, node_at}
@@ -28,20 +28,6 @@ use Rattle.put_words.proofs.Inside.{each_put}
 use Rattle.put_words.proofs.Moves.{next_at, nothing_at}
 use Rattle.sp_model.proofs.LeastSums.{total_abs_is, weight_size}
 use Rattle.put_words.proofs.Weights.{node_sum_abs, value_abs, weight_some, weight_sum}
-
--- a number of at most w times c, divided by w and rounded down, is of at most c
-pub floor_abs : (z : ℤ) (w c : ℕ) → 0 < w → unsigned_abs z ≤ w * c → unsigned_abs (int_div_euclid z (pos w)) ≤ c
-floor_abs (pos a) w c h l =
-    let most : a ≤ w * c = l in
-    let next : c + 1 ≡ suc c = omega arith in
-    let below : a < (c + 1) * w = omega (arith, mul_comm w c, suc-mul c w, ap (λ k. k * w) next) in
-    let few : a / w < c + 1 = div_below a w (c + 1) h below in
-    omega (arith, few)
-floor_abs (negsuc a) w c h l =
-    let most : suc a ≤ w * c = l in
-    let below : a < c * w = omega (arith, mul_comm w c) in
-    let few : a / w < c = div_below a w c h below in
-    omega (arith, few)
 
 regroup : (r w u m : ℕ) → (r * w) * (u * m + u * m) ≡ u * (w * (2 * r * m))
 regroup r w u m = grind arith
@@ -75,7 +61,8 @@ rise_abs run x ns j s inside below some l h =
     let u = sum_by (weight_size run) ns in
     let z = (run.options.rho *ℤ weight_at run s) *ℤ ((weight_of run ns *ℤ value_at run x s j) -ℤ sum_of run x ns j) in
     let weight = weight_sum run ns (recursion_from_All (λ k. k < scenarios run) ns below) in
-    let bound = floor_abs z u (weight_size run s * (2 * unsigned_abs run.options.rho * box_reach run.program j)) (weight_above run ns below some) (numerator_abs run x ns j s inside below l h) in
+    let most = weight_size run s * (2 * unsigned_abs run.options.rho * box_reach run.program j) in
+    let bound = floor_small z u most (weight_above run ns below some) (subst (λ k. unsigned_abs z ≤ k) (mul_comm u most) (numerator_abs run x ns j s inside below l h)) in
     omega (arith, bound, ap (λ d. unsigned_abs (int_div_euclid z d)) weight)
 
 -- the sum of the rises of some of a node's scenarios

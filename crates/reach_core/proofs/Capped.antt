@@ -1,5 +1,6 @@
 -- Parts of sums and products may be capped before or after; sums over columns, one more at a time.
 use Rattle.std.proofs.Common.{arith, refl, sym, ◌≡◌, ℕ, ◌+◌, ◌*◌, ◌^◌, max, ap, ◌∙◌, add-one, List, [], ◌∷◌, ◌++◌, map}
+use Rattle.std.proofs.lemmas.List.Sums.{fold-append}
 use Rattle.std.specs.List.{fold, range_with_len}
 use Rattle.std.proofs.lemmas.List.{map-append}
 use Rattle.std.proofs.Math.Nat.{mul_assoc, mul_comm}
@@ -29,13 +30,9 @@ square_capped a x p = ap (λ n. capped (n * n)) p
 pub sum_next : (f : ℕ → ℕ) (j sum part after : ℕ) → sum ≡ capped (size_below j f) → part ≡ capped (f j) → after ≡ capped (sum + part) → after ≡ capped (size_below (j + 1) f)
 sum_next f j sum part after was is step = step ∙ (sum_of_capped (size_below j f) (f j) sum part was is ∙ ap (λ n. capped (size_below n f)) (sym (add-one j)))
 
-greatest_from : (ns : List ℕ) (a n : ℕ) → fold max a (ns ++ n ∷ []) ≡ max (fold max a ns) n
-greatest_from [] a n = refl
-greatest_from (m ∷ ns) a n = greatest_from ns (max a m) n
-
 -- one item more of those among which the greatest is
 pub greatest_push : {X : Type 0} (f : X → ℕ) (xs : List X) (x : X) → greatest (map f (xs ++ x ∷ [])) ≡ max (greatest (map f xs)) (f x)
-greatest_push f xs x = ap greatest (map-append f xs (x ∷ [])) ∙ greatest_from (map f xs) 0 (f x)
+greatest_push f xs x = ap greatest (map-append f xs (x ∷ [])) ∙ fold-append max 0 (map f xs) (f x ∷ [])
 
 pub greatest_more : (f : ℕ → ℕ) (j : ℕ) → greatest (map f (range_with_len 0 (j + 1))) ≡ max (greatest (map f (range_with_len 0 j))) (f j)
 greatest_more f j =

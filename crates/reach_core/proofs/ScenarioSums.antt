@@ -1,5 +1,5 @@
 -- The sums, limits and greatest costs of a scenario, changed from those of the core change by change.
-use Rattle.std.proofs.Common.{arith, refl, sym, ap, subst, ◌∙◌, ◌≡◌, ℕ, zero, suc, ◌+◌, ◌*◌, ◌-◌, ◌^◌, ◌<◌, ◌≤◌, ◌==◌, max, nat_lt, Bool, true, false, ◌&&◌, List, [], ◌∷◌, ◌++◌, length, map, get_or, set, slice_index, if◌then◌else◌, ℤ, pos, unsigned_abs, inl, inr}
+use Rattle.std.proofs.Common.{arith, refl, sym, ap, subst, ◌∙◌, ◌≡◌, ℕ, zero, suc, ◌+◌, ◌*◌, ◌-◌, ◌^◌, ◌<◌, ◌≤◌, ◌==◌, max, nat_lt, true, false, ◌&&◌, List, [], ◌∷◌, ◌++◌, length, map, get_or, set, slice_index, if◌then◌else◌, ℤ, pos, unsigned_abs, inl, inr}
 use Rattle.std.specs.List.{All, AllByRecursion, fold, range_with_len, sum_by}
 use Rattle.std.proofs.lemmas.Bool.{cases_eq, cases_lt}
 use Rattle.std.proofs.lemmas.List.{get_or-map, get_or-set_other, get_or-set_same, get_or_default, length-map, length-set}
@@ -32,6 +32,7 @@ use Rattle.reach_core.proofs.Capped.{greatest_more, greatest_push}
 use Rattle.reach_core.proofs.Costs.{tops_long}
 use Rattle.reach_core.proofs.Data.{data_limits, row_capped, sums_long, tops_first}
 use Rattle.base_words.proofs.Made.{is_made, made_at}
+use Rattle.base_words.proofs.NumberTests.{test_from_other, test_from_same}
 use Rattle.reach_core.proofs.Within.{sum_le}
 
 -- changes of n rows and m columns
@@ -47,23 +48,12 @@ there_at p s cs xs scenario same long =
 row_there : (n m row column : ℕ) → (nat_lt row n && nat_lt column m) ≡ true → row < n
 row_there n m row column t = let h = both_left (nat_lt row n) (nat_lt column m) t in grind arith
 
--- whether a row is another, as a test
-same_test : (a b : ℕ) → a ≡ b → (b == a) ≡ true
-same_test a b h = grind arith
-
-other_test : (a b : ℕ) → (a ≡ b → ⊥) → (b == a) ≡ false
-other_test a b h = by_test (b == a) refl
-  where
-    by_test : (t : Bool) → (b == a) ≡ t → t ≡ false
-    by_test true e = absurd (h (grind arith))
-    by_test false e = refl
-
 -- the size of an entry in its row and in another
 own_size : (p : Program) (i row column : ℕ) (z : ℤ) → i ≡ row → entry_size (sides p) i (record { row = row; column = column; value = z }) ≡ unsigned_abs z * box_reach p column
-own_size p i row column z h = ap (λ t. if t then unsigned_abs z * reach (side_at (sides p) column) else 0) (same_test i row h)
+own_size p i row column z h = ap (λ t. if t then unsigned_abs z * reach (side_at (sides p) column) else 0) (test_from_same row i (sym h))
 
 no_size : (p : Program) (i row column : ℕ) (z : ℤ) → (i ≡ row → ⊥) → entry_size (sides p) i (record { row = row; column = column; value = z }) ≡ 0
-no_size p i row column z h = ap (λ t. if t then unsigned_abs z * reach (side_at (sides p) column) else 0) (other_test i row h)
+no_size p i row column z h = ap (λ t. if t then unsigned_abs z * reach (side_at (sides p) column) else 0) (test_from_other row i (λ e. h (sym e)))
 
 -- lengths stay
 fold_long : (step : List ℕ → Change → List ℕ) → ((xs : List ℕ) (c : Change) → length (step xs c) ≡ length xs) → (cs : List Change) (xs : List ℕ) → length (fold step xs cs) ≡ length xs

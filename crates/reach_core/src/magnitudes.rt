@@ -1,5 +1,6 @@
 ghost use Rattle.std.specs.Prelude.{◌≡◌, ◌<◌, ◌≤◌, ◌^◌, length, max, unsigned_abs};
-ghost use Rattle.boxed_problem.specs.BoxedFacts.{limit_size, limits_size};
+ghost use Rattle.base_words.specs.Signs.{limit_size};
+ghost use Rattle.boxed_problem.specs.BoxedFacts.{limits_size};
 ghost use Rattle.sp_model.specs.Reaching.{box_reach};
 
 use boxed_problem::Limits;

@@ -30,41 +30,13 @@ pub struct Ascent {
     pub ghost facts: { IsAscent columns sides rows entries line square values },
 }
 
-/// A copy of sides.
-fn copy_sides(sides: &List<Side>) -> Result<List<Side>, AllocError>
-    ensures { IfOk result (λ r. r ≡ sides.now) }
-{
-    sides.clone()
-}
-
-/// A copy of the rows' limits.
-fn copy_rows(rows: &List<Limits>) -> Result<List<Limits>, AllocError>
-    ensures { IfOk result (λ r. r ≡ rows.now) }
-{
-    rows.clone()
-}
-
-/// A copy of numbers.
-fn copy_numbers(numbers: &List<i128>) -> Result<List<i128>, AllocError>
-    ensures { IfOk result (λ r. r ≡ numbers.now) }
-{
-    numbers.clone()
-}
-
 /// A copy of entries, row by row.
 fn by_rows(entries: &List<Entry>) -> Result<List<Entry>, AllocError>
     ensures { IfOk result (λ r. IsPermutation entries.now r) }
 {
-    let mut sorted = copy_entries(entries)?.into_vec();
+    let mut sorted = entries.copied()?.into_vec();
     sorted.sort_unstable_by_key(|entry| entry.row);
     Ok(List::from_vec(sorted))
-}
-
-/// A copy of entries.
-fn copy_entries(entries: &List<Entry>) -> Result<List<Entry>, AllocError>
-    ensures { IfOk result (λ r. r ≡ entries.now) }
-{
-    entries.clone()
 }
 
 /// The ascent from these prices over the sides.
@@ -82,10 +54,10 @@ pub fn ascent_from(
         square,
         ..
     } = reduce_by(problem, prices)?;
-    let sides = copy_sides(sides)?;
-    let rows = copy_rows(&problem.rows)?;
+    let sides = sides.copied()?;
+    let rows = problem.rows.copied()?;
     let entries = by_rows(&problem.entries)?;
-    let values = copy_numbers(&prices.values)?;
+    let values = prices.values.copied()?;
     Ok(Ascent {
         columns,
         sides,

@@ -6,11 +6,8 @@ ghost use Rattle.boxed_problem.specs.PriceFit.{FitsPrices, HasSign, price_size};
 ghost use Rattle.base_words.specs.Sums.{number_at, size_below};
 ghost use Rattle.safe_bound.specs.PriceWeights.{limit_weight, weight};
 
-use crate::parts::{is_allowed, part_size, side_reach};
-use boxed_problem::{Boxed, Entry, Prices, limits_reach};
-
-/// The greatest magnitude that prices may have.
-const MAX_SIZE: u128 = 1 << 125;
+use crate::parts::{part_size, side_reach};
+use boxed_problem::{Boxed, Entry, MAX_PRICE_SIZE, Prices, has_sign, limits_reach};
 
 /// The magnitude of the objective, or none where it leaves 128 bits.
 fn objective_size(problem: &Boxed) -> Option<u128>
@@ -95,7 +92,7 @@ fn have_signs(problem: &Boxed, prices: &Prices) -> bool
     let rows = problem.rows.as_slice();
     let values = prices.values.as_slice();
     for i in 0..rows.len() {
-        if !is_allowed(rows[i], values[i]) {
+        if !has_sign(rows[i], values[i]) {
             return false;
         }
     }
@@ -113,7 +110,7 @@ pub fn fits(problem: &Boxed, prices: &Prices) -> bool
         return false;
     }
     match prices_size(problem, prices) {
-        Some(size) => size <= MAX_SIZE,
+        Some(size) => size <= MAX_PRICE_SIZE,
         None => false,
     }
 }

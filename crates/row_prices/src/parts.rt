@@ -1,5 +1,4 @@
-ghost use Rattle.std.specs.Prelude.{◌≡◌, ◌+◌, ◌*◌, ◌^◌, ◌≤◌, ◌≤ℤ◌, ◌↔◌, IfSome, IsTrue, true, pos, unsigned_abs};
-ghost use Rattle.boxed_problem.specs.PriceFit.{HasSign};
+ghost use Rattle.std.specs.Prelude.{◌≡◌, ◌+◌, ◌*◌, ◌^◌, ◌≤◌, ◌≤ℤ◌, IfSome, true, pos, unsigned_abs};
 ghost use Rattle.boxed_problem.specs.Sides.{reach};
 
 use boxed_problem::{Limits, Side};
@@ -47,13 +46,6 @@ pub fn least_place(cost: i128, square: i128, side: Side, falls: bool) -> i64 {
     } else {
         side.lower
     }
-}
-
-/// Whether a row's limits allow a price of this sign.
-pub fn is_allowed(limits: Limits, price: i128) -> bool
-    ensures { IsTrue result ↔ HasSign limits price }
-{
-    (price >= 0 || limits.upper.is_some()) && (price <= 0 || limits.lower.is_some())
 }
 
 /// The limit that a price a little above (`up`) or below this one pays for, 0

@@ -5,5 +5,7 @@
 mod multiplying;
 mod put;
 
-pub use multiplying::{TooBig, Unbalanced, balanced, most, multiplier, sized};
+pub use multiplying::{
+    TooBig, Unbalanced, balanced, is_of_stage, members, most, multiplier, sized,
+};
 pub use put::Put;

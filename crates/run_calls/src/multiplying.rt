@@ -135,10 +135,12 @@ pub fn sized(run: &Run, multipliers: &Multipliers) -> Result<(), TooBig>
     Ok(())
 }
 
-// The scenarios of a node.
-fn members(run: &Run, node: u32) -> &[u32]
+/// The scenarios of a node, of which there is one at least.
+pub fn members(run: &Run, node: u32) -> &[u32]
     requires { node < length run.now.program.tree.nodes }
     ensures value { result.now ≡ scenarios_at run.now.program.tree.nodes node }
+    ensures some { 0 < length result.now }
+    ensures there { All (λ s. s < scenarios run.now) result.now }
     ensures members { AreMembers run.now result.now }
 {
     run.program.tree.scenarios(node).as_slice()
@@ -159,8 +161,8 @@ fn sum_over(run: &Run, multipliers: &Multipliers, members: &[u32], column: u32) 
     sum
 }
 
-// Whether a column is of the stage of a node.
-fn is_of_stage(run: &Run, node: u32, column: u32) -> bool
+/// Whether a column is of the stage of a node.
+pub fn is_of_stage(run: &Run, node: u32, column: u32) -> bool
     requires node { node < length run.now.program.tree.nodes }
     requires column { column < length run.now.program.columns }
     ensures { result ≡ is_of_stage run.now node column }

@@ -16,7 +16,7 @@ use Rattle.boxed_problem.proofs.Narrower.{column_size-within}
 use Rattle.boxed_problem.proofs.Lying.{Lies, Single, single_at, corner_at, filled_at}
 use Rattle.base_words.proofs.Magnitudes.{abs-add, abs_between, fits_from_abs}
 use Rattle.boxed_problem.proofs.Magnitudes.{abs-curve, curve_size}
-use Rattle.base_words.proofs.SumBounds.{size_below-le, sum_below-abs}
+use Rattle.base_words.proofs.SumBounds.{size_below-le, sum_below-abs, sum_below-mono}
 use Rattle.base_words.proofs.Comparisons.{above_from_test, below_from_test}
 
 -- what holds at each of n numbers from a on holds of all of them
@@ -77,22 +77,18 @@ least_on-size line square s f =
     least_on-holds (λ z. unsigned_abs z ≤ unsigned_abs line * reach s + unsigned_abs square * (reach s * reach s)) line square s f
     (λ x l u. let p = abs-curve line square x in let q = curve_size line square x (reach s) (abs_between s.lower s.upper x l u) in omega (arith, p, q))
 
-pub sum_below-order : (n : ℕ) (f g : ℕ → ℤ) → ((k : ℕ) → f k ≤ℤ g k) → sum_below n f ≤ℤ sum_below n g
-sum_below-order zero f g h = omega (arith, ints)
-sum_below-order (suc n) f g h = let p = h n in let r = sum_below-order n f g h in omega (arith, ints)
-
 -- the least in a box is at most the objective at each of its points
 pub least_holds : (b : Problem) (box : List Side) (x : List ℤ) → Lies box x → least_value b box ≤ℤ value_of b x
 least_holds b box x h =
-    let r = sum_below-order (length b.columns) (least_part b.line b.square box) (value_part b.line b.square x)
-    (λ j. let l = h j in least_on-le (number_at b.line j) (number_at b.square j) (side_at box j) (number_at x j) l.0 l.1) in
+    let r = sum_below-mono (length b.columns) (least_part b.line b.square box) (value_part b.line b.square x)
+    (λ j m. let l = h j in least_on-le (number_at b.line j) (number_at b.square j) (side_at box j) (number_at x j) l.0 l.1) in
     omega (arith, ints)
 
 -- in a box of single columns it is the objective at the only point
 pub single_least : (b : Problem) (box : List Side) → Single box → least_value b box ≡ value_of b (corner box)
 single_least b box h =
     let p = least_holds b box (corner box) (λ j. let e = corner_at box j in let d = single_at box h j in (omega (arith, ints), omega (arith, ints))) in
-    let q = sum_below-order (length b.columns) (value_part b.line b.square (corner box)) (least_part b.line b.square box) (λ j. at_least j) in
+    let q = sum_below-mono (length b.columns) (value_part b.line b.square (corner box)) (least_part b.line b.square box) (λ j m. at_least j) in
     omega (arith, ints)
   where
     at_least : (j : ℕ) → value_part b.line b.square (corner box) j ≤ℤ least_part b.line b.square box j

@@ -1,6 +1,6 @@
 -- the total that prices give, over the scale, is at most the objective at each feasible point in the box
 
-use Rattle.std.proofs.Common.{arith, refl, ap, sym, ◌∙◌, ◌≡◌, ℕ, zero, suc, ◌<◌, Bool, true, false, ◌==◌, List, length, ℤ, pos, negsuc, ◌+ℤ◌, ◌-ℤ◌, ◌*ℤ◌, ◌≤ℤ◌, ◌<ℤ◌, int_lt, int_le, Option, Some, None, if◌then◌else◌}
+use Rattle.std.proofs.Common.{arith, refl, ap, sym, ◌∙◌, ◌≡◌, ℕ, zero, suc, ◌<◌, Bool, true, false, ◌==◌, List, get_or, length, ℤ, pos, negsuc, ◌+ℤ◌, ◌-ℤ◌, ◌*ℤ◌, ◌≤ℤ◌, ◌<ℤ◌, int_lt, int_le, Option, Some, None, if◌then◌else◌}
 use Rattle.std.proofs.lemmas.Int.{ints}
 use Rattle.std.proofs.lemmas.List.Elements.{recursion_from_All}
 use Rattle.std.proofs.Math.IntN.{*ℤ_comm, pred_ℤ-*ℤ, suc_ℤ-*ℤ}
@@ -21,9 +21,12 @@ use Rattle.boxed_problem.specs.declared.parts.Prices.{Prices}
 use Rattle.boxed_problem.specs.declared.parts.Side.{Side}
 use Rattle.base_words.proofs.Comparisons.{both_left, both_right, most_from_test}
 use Rattle.base_words.proofs.Products.{sum_times, times_one, times_order, times_sum, times_turn, zero_times}
-use Rattle.base_words.proofs.ListSumsByNumber.{sum_below-same}
+use Rattle.base_words.specs.ListSums.{sum_z}
+use Rattle.base_words.proofs.ListSums.{sum_z-by, sum_z-same, sum_z-times}
+use Rattle.base_words.proofs.ListSumsByNumber.{sum_below-add, sum_below-same}
+use Rattle.base_words.proofs.SumBounds.{sum_below-mono}
 use Rattle.safe_bound.specs.PriceBound.{IsPriceBound, entry_price, limit_number, limit_price, limit_sum, paid_limit, price_total, priced_activity, reduced_cost, reduced_least, scaled_square, unit_price}
-use Rattle.safe_bound.proofs.KeyedSums.{by_key, list_sum, list_sum-by, list_sum-same, list_sum-times, sum_below-add, sum_below-times}
+use Rattle.safe_bound.proofs.KeyedSums.{by_key, sum_below-times}
 use Rattle.safe_bound.proofs.LeastLaws.{least_on-le}
 
 -- a product with the opposite of a number
@@ -55,15 +58,19 @@ times_assoc (negsuc (suc n)) b c =
     omega (arith, ints, pred_ℤ-*ℤ (negsuc n) (b *ℤ c), e, g, m, times_assoc (negsuc n) b c)
 
 -- what an entry costs at a point: its row's price times the entry times the column's value
-abbrev pub entry_cost : Prices → List ℤ → Entry → ℤ
+abbrev entry_cost : Prices → List ℤ → Entry → ℤ
 entry_cost prices x e = (number_at prices.values e.row *ℤ e.value) *ℤ number_at x e.column
+
+-- parts that are the same at every entry
+same_parts : (f g : Entry → ℤ) (es : List Entry) → ((e : Entry) → f e ≡ g e) → sum_z f es ≡ sum_z g es
+same_parts f g es h = sum_z-same f g es (recursion_from_All (λ e. f e ≡ g e) es (λ k d l. h (get_or es k d)))
 
 -- a row's price times its activity, entry by entry
 row_cost : (b : Problem) (prices : Prices) (x : List ℤ) (i : ℕ) →
-    (number_at prices.values i *ℤ activity b.entries x i) ≡ list_sum (λ (e : Entry). if e.row == i then entry_cost prices x e else pos 0) b.entries
+    (number_at prices.values i *ℤ activity b.entries x i) ≡ sum_z (λ (e : Entry). if e.row == i then entry_cost prices x e else pos 0) b.entries
 row_cost b prices x i =
-    list_sum-times (number_at prices.values i) (activity_part x i) b.entries
-    ∙ list_sum-same (λ e. number_at prices.values i *ℤ activity_part x i e) (λ (e : Entry). if e.row == i then entry_cost prices x e else pos 0) b.entries (λ e. by_test e (e.row == i) refl)
+    sym (sum_z-times (number_at prices.values i) (activity_part x i) b.entries)
+    ∙ same_parts (λ e. number_at prices.values i *ℤ activity_part x i e) (λ (e : Entry). if e.row == i then entry_cost prices x e else pos 0) b.entries (λ e. by_test e (e.row == i) refl)
   where
     by_test : (e : Entry) (t : Bool) → (e.row == i) ≡ t → (number_at prices.values i *ℤ (if t then e.value *ℤ number_at x e.column else pos 0)) ≡ (if t then entry_cost prices x e else pos 0)
     by_test e true h =
@@ -73,10 +80,10 @@ row_cost b prices x i =
 
 -- the price of a column's units, entry by entry
 column_cost : (b : Problem) (prices : Prices) (x : List ℤ) (j : ℕ) →
-    (unit_price b prices j *ℤ number_at x j) ≡ list_sum (λ (e : Entry). if e.column == j then entry_cost prices x e else pos 0) b.entries
+    (unit_price b prices j *ℤ number_at x j) ≡ sum_z (λ (e : Entry). if e.column == j then entry_cost prices x e else pos 0) b.entries
 column_cost b prices x j =
-    list_sum-by (entry_price prices j) (number_at x j) b.entries
-    ∙ list_sum-same (λ e. entry_price prices j e *ℤ number_at x j) (λ (e : Entry). if e.column == j then entry_cost prices x e else pos 0) b.entries (λ e. by_test e (e.column == j) refl)
+    sum_z-by (entry_price prices j) (number_at x j) b.entries
+    ∙ same_parts (λ e. entry_price prices j e *ℤ number_at x j) (λ (e : Entry). if e.column == j then entry_cost prices x e else pos 0) b.entries (λ e. by_test e (e.column == j) refl)
   where
     by_test : (e : Entry) (t : Bool) → (e.column == j) ≡ t → ((if t then number_at prices.values e.row *ℤ e.value else pos 0) *ℤ number_at x j) ≡ (if t then entry_cost prices x e else pos 0)
     by_test e true h =
@@ -88,10 +95,10 @@ column_cost b prices x j =
 priced_columns : (b : Problem) (prices : Prices) (x : List ℤ) → All (λ e. (e.row < length b.rows) × (e.column < length b.columns)) b.entries →
     priced_activity b prices x ≡ sum_below (length b.columns) (λ j. unit_price b prices j *ℤ number_at x j)
 priced_columns b prices x h =
-    sum_below-same (length b.rows) (λ i. number_at prices.values i *ℤ activity b.entries x i) (λ i. list_sum (λ (e : Entry). if e.row == i then entry_cost prices x e else pos 0) b.entries) (λ i l. row_cost b prices x i)
+    sum_below-same (length b.rows) (λ i. number_at prices.values i *ℤ activity b.entries x i) (λ i. sum_z (λ (e : Entry). if e.row == i then entry_cost prices x e else pos 0) b.entries) (λ i l. row_cost b prices x i)
     ∙ (by_key (λ (e : Entry). e.row) (entry_cost prices x) (length b.rows) b.entries rows
     ∙ (sym (by_key (λ (e : Entry). e.column) (entry_cost prices x) (length b.columns) b.entries columns)
-    ∙ sym (sum_below-same (length b.columns) (λ j. unit_price b prices j *ℤ number_at x j) (λ j. list_sum (λ (e : Entry). if e.column == j then entry_cost prices x e else pos 0) b.entries) (λ j l. column_cost b prices x j))))
+    ∙ sym (sum_below-same (length b.columns) (λ j. unit_price b prices j *ℤ number_at x j) (λ j. sum_z (λ (e : Entry). if e.column == j then entry_cost prices x e else pos 0) b.entries) (λ j l. column_cost b prices x j))))
   where
     rows : AllByRecursion (λ (e : Entry). e.row < length b.rows) b.entries
     rows = recursion_from_All (λ (e : Entry). e.row < length b.rows) b.entries (λ k d l. (h k d l).0)
@@ -149,22 +156,18 @@ paid_below limits price a s m = by_sign price s refl
             omega (arith, ints, l, r)
     by_sign (negsuc n) h e = high limits.upper n refl h.above
 
-sum_below-most : (n : ℕ) (f g : ℕ → ℤ) → ((k : ℕ) → k < n → f k ≤ℤ g k) → sum_below n f ≤ℤ sum_below n g
-sum_below-most zero f g h = omega (arith, ints)
-sum_below-most (suc n) f g h = omega (arith, ints, h n (omega arith), sum_below-most n f g (λ k l. h k (omega arith)))
-
 -- what is paid for the limits is at most what is paid for the activities
 pub limits_below : (b : Problem) (prices : Prices) (x : List ℤ) → ((i : ℕ) → i < length b.rows → HasSign (limits_at b.rows i) (number_at prices.values i)) → Feasible b x →
     limit_sum b prices ≤ℤ priced_activity b prices x
 limits_below b prices x s f =
-    sum_below-most (length b.rows) (limit_price b prices) (λ i. number_at prices.values i *ℤ activity b.entries x i)
+    sum_below-mono (length b.rows) (limit_price b prices) (λ i. number_at prices.values i *ℤ activity b.entries x i)
     (λ i l. paid_below (limits_at b.rows i) (number_at prices.values i) (activity b.entries x i) (s i l) (f.rows i l))
 
 -- the leasts are at most what the columns add at a point of the box
 leasts_below : (b : Problem) (prices : Prices) (box : List Side) (x : List ℤ) → length box ≡ length b.columns → InBox box x →
     sum_below (length b.columns) (reduced_least b prices box) ≤ℤ sum_below (length b.columns) (λ j. curve (reduced_cost b prices j) (scaled_square b prices j) (number_at x j))
 leasts_below b prices box x e i =
-    sum_below-most (length b.columns) (reduced_least b prices box) (λ j. curve (reduced_cost b prices j) (scaled_square b prices j) (number_at x j))
+    sum_below-mono (length b.columns) (reduced_least b prices box) (λ j. curve (reduced_cost b prices j) (scaled_square b prices j) (number_at x j))
     (λ j l. let m : j < length box = omega (arith, e) in least_on-le (reduced_cost b prices j) (scaled_square b prices j) (side_at box j) (number_at x j) (i.lower j m) (i.upper j m))
 
 -- the total is at most the scale times the objective at each feasible point in the box

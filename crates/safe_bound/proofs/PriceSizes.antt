@@ -8,7 +8,7 @@ use Rattle.std.proofs.Math.Nat.{mul-le-mul, mul-le-mul_left}
 use Rattle.std.specs.Int.{w128}
 use Rattle.std.specs.List.{All, sum_by}
 use Rattle.boxed_problem.specs.Data.{Problem}
-use Rattle.boxed_problem.specs.BoxedFacts.{column_size, entry_size, limit_size, limits_at, limits_size, no_entry, value_size}
+use Rattle.boxed_problem.specs.BoxedFacts.{column_size, entry_size, limits_at, limits_size, no_entry, value_size}
 use Rattle.boxed_problem.specs.PriceFit.{price_part, price_size}
 use Rattle.boxed_problem.specs.Sides.{Within, reach, side_at}
 use Rattle.base_words.specs.Sums.{number_at, size_below, sum_below}
@@ -19,11 +19,13 @@ use Rattle.boxed_problem.specs.declared.parts.Side.{Side}
 use Rattle.base_words.proofs.Products.{times_order}
 use Rattle.boxed_problem.proofs.Lying.{filled_at, within_reach}
 use Rattle.base_words.proofs.Magnitudes.{abs-add, fits_from_abs, abs-less, abs_none}
-use Rattle.base_words.proofs.SumBounds.{fold-abs, size_below-le, size_below-part, sum_below-abs, size_below-same, size_below-add, size_below-mono}
+use Rattle.base_words.proofs.SumBounds.{fold-abs, size_below-le, size_below-part, sum_below-abs, size_below-same, size_below-add, size_below-mono, size_below-times}
 use Rattle.safe_bound.specs.Leasts.{least_on}
 use Rattle.safe_bound.specs.PriceBound.{entry_price, limit_number, limit_price, limit_sum, paid_limit, reduced_cost, reduced_least, scaled_square, unit_price}
 use Rattle.safe_bound.specs.Reducing.{kept_cost, kept_square, reduced_constant}
-use Rattle.safe_bound.proofs.KeyedSums.{by_key_size, list_sum, size_below-times, sum_by-same, sum_by-times}
+use Rattle.safe_bound.proofs.KeyedSums.{by_key_size, sum_by-same, sum_by-times}
+use Rattle.base_words.specs.ListSums.{sum_z}
+use Rattle.base_words.specs.Signs.{limit_size}
 use Rattle.safe_bound.proofs.LeastLaws.{least_on-size}
 use Rattle.safe_bound.specs.PriceWeights.{limit_weight, weight}
 
@@ -66,7 +68,7 @@ columns_weigh b prices h =
     let s = unsigned_abs prices.scale in
     let entries : ℕ → ℕ = λ j. sum_by (λ (e : Entry). if e.column == j then weight b prices e else 0) b.entries in
     let p = size_below-add n (λ j. s * column_size b.columns b.line b.square j) entries in
-    let q = size_below-times s n (column_size b.columns b.line b.square) in
+    let q = size_below-times n s (column_size b.columns b.line b.square) in
     let r = by_key_size (λ (e : Entry). e.column) (weight b prices) n b.entries (recursion_from_All (λ (e : Entry). e.column < length b.columns) b.entries (λ k d l. (h k d l).1)) in
     omega (arith, p, q, r)
 
@@ -127,7 +129,7 @@ entry_price-size prices j e = by_test (e.column == j)
     by_test true = omega (arith, unsigned_abs-mul (number_at prices.values e.row) e.value)
     by_test false = omega (arith, ints)
 
-unit_upto : (b : Problem) (prices : Prices) (j k : ℕ) → unsigned_abs (list_sum (entry_price prices j) (take k b.entries)) ≤ unit_size b prices j
+unit_upto : (b : Problem) (prices : Prices) (j k : ℕ) → unsigned_abs (sum_z (entry_price prices j) (take k b.entries)) ≤ unit_size b prices j
 unit_upto b prices j k =
     let g : Entry → ℕ = λ e. if e.column == j then unsigned_abs (number_at prices.values e.row) * unsigned_abs e.value else 0 in
     omega (arith, fold-abs (entry_price prices j) g (entry_price-size prices j) (pos 0) (take k b.entries), sum_by-take-le g b.entries k)
@@ -257,8 +259,8 @@ costs_small b prices j h l u f =
     (omega (arith, a, w), omega (arith, c, w), omega (arith, a, t, e, w))
 
 -- in such a column the price of its first entries fits
-pub unit_fits_upto : (b : Problem) (prices : Prices) (j k : ℕ) → Placed b → j < length b.columns → 0 < reach (side_at b.columns j) → price_size b prices ≤ 2 ^ 125 → FitsSigned w128 (list_sum (entry_price prices j) (take k b.entries))
-unit_fits_upto b prices j k h l u f = fits_from_abs (list_sum (entry_price prices j) (take k b.entries)) (omega (arith, unit_upto b prices j k, unit_small b prices j h l u f))
+pub unit_fits_upto : (b : Problem) (prices : Prices) (j k : ℕ) → Placed b → j < length b.columns → 0 < reach (side_at b.columns j) → price_size b prices ≤ 2 ^ 125 → FitsSigned w128 (sum_z (entry_price prices j) (take k b.entries))
+unit_fits_upto b prices j k h l u f = fits_from_abs (sum_z (entry_price prices j) (take k b.entries)) (omega (arith, unit_upto b prices j k, unit_small b prices j h l u f))
 
 -- and so does what one entry adds
 pub entry_fits : (b : Problem) (prices : Prices) (j k : ℕ) → Placed b → j < length b.columns → 0 < reach (side_at b.columns j) → price_size b prices ≤ 2 ^ 125 → k < length b.entries → FitsSigned w128 (entry_price prices j (get_or b.entries k no_entry))

@@ -11,7 +11,7 @@ use Rattle.boxed_problem.specs.declared.parts.Entry.{Entry}
 use Rattle.boxed_problem.specs.declared.parts.Prices.{Prices}
 use Rattle.safe_bound.specs.PriceBound.{entry_price, unit_price}
 use Rattle.safe_bound.specs.Runs.{IsColumnRun, IsRunEnd, StartsAt}
-use Rattle.safe_bound.proofs.KeyedSums.{list_sum}
+use Rattle.base_words.specs.ListSums.{sum_z}
 
 -- the columns never fall
 ascending : (es : List Entry) → AreAscending es → (i n : ℕ) → i + n < length es → (entry_at es i).column ≤ (entry_at es (i + n)).column
@@ -55,14 +55,14 @@ starts_first : (es : List Entry) → StartsAt es 0 0
 starts_first es = record { within = omega arith; before = λ k l. absurd (omega arith); behind = λ k l m. omega arith }
 
 -- parts that are 0 add nothing
-same_sum : (f : Entry → ℤ) (es : List Entry) (i n : ℕ) → i + n ≤ length es → ((k : ℕ) → i ≤ k → k < i + n → f (entry_at es k) ≡ pos 0) → list_sum f (take (i + n) es) ≡ list_sum f (take i es)
-same_sum f es i zero h z = let e : i + zero ≡ i = omega arith in ap (λ k. list_sum f (take k es)) e
+same_sum : (f : Entry → ℤ) (es : List Entry) (i n : ℕ) → i + n ≤ length es → ((k : ℕ) → i ≤ k → k < i + n → f (entry_at es k) ≡ pos 0) → sum_z f (take (i + n) es) ≡ sum_z f (take i es)
+same_sum f es i zero h z = let e : i + zero ≡ i = omega arith in ap (λ k. sum_z f (take k es)) e
 same_sum f es i (suc n) h z =
     let r = same_sum f es i n (omega arith) (λ k l m. z k l (omega arith)) in
     let e : i + suc n ≡ (i + n) + 1 = omega arith in
     let m = fold_more (λ s e. s +ℤ f e) (pos 0) es (i + n) no_entry (omega arith) in
     let p = z (i + n) (omega arith) (omega arith) in
-    omega (arith, ints, r, ap (λ k. list_sum f (take k es)) e, m, p)
+    omega (arith, ints, r, ap (λ k. sum_z f (take k es)) e, m, p)
 
 entry_elsewhere : (prices : Prices) (j : ℕ) (e : Entry) → (e.column ≡ j → ⊥) → entry_price prices j e ≡ pos 0
 entry_elsewhere prices j e h = by_test (e.column == j) refl
@@ -77,20 +77,20 @@ entry_here prices j e h =
     ap (λ t. if t then number_at prices.values e.row *ℤ e.value else pos 0) d
 
 -- the sum over the entries before a column's is 0
-pub price_before : (prices : Prices) (es : List Entry) (column first end : ℕ) → IsColumnRun es column first end → pos 0 ≡ list_sum (entry_price prices column) (take first es)
+pub price_before : (prices : Prices) (es : List Entry) (column first end : ℕ) → IsColumnRun es column first end → pos 0 ≡ sum_z (entry_price prices column) (take first es)
 price_before prices es column first end r =
     let w : 0 + first ≤ length es = omega (arith, r.starts.within) in
     let n : 0 + first ≡ first = omega arith in
     let s = same_sum (entry_price prices column) es 0 first w
     (λ k l m. entry_elsewhere prices column (entry_at es k) (λ e. let p = r.starts.before k (omega arith) in omega (arith, p, e))) in
-    sym (sym (ap (λ k. list_sum (entry_price prices column) (take k es)) n) ∙ s)
+    sym (sym (ap (λ k. sum_z (entry_price prices column) (take k es)) n) ∙ s)
 
 -- the sum up to the end of a column's entries is that of the column
-pub price_upto : (b : Problem) (prices : Prices) (column first end : ℕ) → IsColumnRun b.entries column first end → list_sum (entry_price prices column) (take end b.entries) ≡ unit_price b prices column
+pub price_upto : (b : Problem) (prices : Prices) (column first end : ℕ) → IsColumnRun b.entries column first end → sum_z (entry_price prices column) (take end b.entries) ≡ unit_price b prices column
 price_upto b prices column first end r =
     let n = length b.entries - end in
     let w = r.within in
     let e : end + n ≡ length b.entries = omega arith in
     sym (same_sum (entry_price prices column) b.entries end n (omega arith)
     (λ k l m. entry_elsewhere prices column (entry_at b.entries k) (λ d. let p = r.behind k l (omega arith) in omega (arith, p, d))))
-    ∙ ap (λ es. list_sum (entry_price prices column) es) (take_all (end + n) b.entries (omega arith))
+    ∙ ap (λ es. sum_z (entry_price prices column) es) (take_all (end + n) b.entries (omega arith))

@@ -14,13 +14,6 @@ use boxed_problem::{Boxed, Prices, Side};
 use std::alloc::AllocError;
 use wide_num::{List, ceil_div};
 
-/// A copy of sides.
-fn copy(sides: &List<Side>) -> Result<List<Side>, AllocError>
-    ensures { IfOk result (λ r. r ≡ sides.now) }
-{
-    sides.clone()
-}
-
 /// The problem with the prices taken into its objective.
 pub fn reduce_by(problem: &Boxed, prices: &Prices) -> Result<Reduced, AllocError>
     requires { FitsPrices (problem_of problem.now) prices.now }
@@ -28,9 +21,9 @@ pub fn reduce_by(problem: &Boxed, prices: &Prices) -> Result<Reduced, AllocError
     ensures under { IfOk result (λ r. IsUnder (problem_of problem.now) r) }
 {
     let entries = problem.entries.as_slice();
-    let columns = copy(&problem.columns)?;
-    let mut line = problem.line.clone()?;
-    let mut square = problem.square.clone()?;
+    let columns = problem.columns.copied()?;
+    let mut line = problem.line.copied()?;
+    let mut square = problem.square.copied()?;
     let mut first = 0;
     for j in 0..columns.len() {
         let end = run_end(entries, j, first);

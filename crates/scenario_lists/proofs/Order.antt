@@ -6,12 +6,9 @@ use Rattle.std.proofs.lemmas.Grind.{flat_map-append}
 use Rattle.std.proofs.lemmas.List.{map-append}
 use Rattle.std.proofs.lemmas.Nat.{div-mul-add, mod-mul-add}
 use Rattle.base_words.proofs.ListSumsByNumber.{range_more}
+use Rattle.scenario_lists.proofs.Rows.{map_twice}
 use Rattle.smps_stoch.specs.declared.stoch.Element.{Element}
 use Rattle.scenario_lists.specs.Combinations.{all_choices, choices_of, combinations}
-
-map_twice : {A B C : Type 0} (g : B → C) (f : A → B) (xs : List A) → map (λ x. g (f x)) xs ≡ map g (map f xs)
-map_twice g f [] = refl
-map_twice g f (x ∷ xs) = ap (λ t. g (f x) ∷ t) (map_twice g f xs)
 
 -- one number more
 map_more : {X : Type 0} (F : ℕ → X) (a n : ℕ) → map F (range_with_len a (suc n)) ≡ map F (range_with_len a n) ++ F (a + n) ∷ []
@@ -64,5 +61,5 @@ in_order (e ∷ es) =
     let m = combinations es in
     let n = length e.realisations in
     let same : (c r : ℕ) → r < m → choices_of (e ∷ es) (c * m + r) ≡ c ∷ choices_of es r = λ c r lt. ap (λ q. q ∷ choices_of es ((c * m + r) % m)) (div-mul-add c m r lt) ∙ ap (λ q. c ∷ choices_of es q) (mod-mul-add c m r lt) in
-    let each : (c : ℕ) → map (λ r. c ∷ choices_of es r) (range_with_len 0 m) ≡ map (λ rest. c ∷ rest) (all_choices es) = λ c. map_twice (λ rest. c ∷ rest) (choices_of es) (range_with_len 0 m) ∙ ap (map (λ rest. c ∷ rest)) (in_order es) in
+    let each : (c : ℕ) → map (λ r. c ∷ choices_of es r) (range_with_len 0 m) ≡ map (λ rest. c ∷ rest) (all_choices es) = λ c. sym (map_twice (λ rest. c ∷ rest) (choices_of es) (range_with_len 0 m)) ∙ ap (map (λ rest. c ∷ rest)) (in_order es) in
     sym (rows (λ c r. c ∷ choices_of es r) (choices_of (e ∷ es)) m n same) ∙ ap (λ (f : ℕ → List (List ℕ)). flat_map f (range_with_len 0 n)) (fun_ext each)

@@ -7,6 +7,7 @@ use Rattle.std.proofs.lemmas.List.FromFn.{take-map-range_with_len}
 use Rattle.std.proofs.lemmas.List.Sums.{fold-append, sum_by-take-le, sum_by_push}
 use Rattle.base_words.proofs.Comparisons.{both_right}
 use Rattle.base_words.proofs.Booleans.{not_both}
+use Rattle.base_words.proofs.Made.{next_made}
 use Rattle.stoch_lines.specs.Places.{same_place}
 use Rattle.stoch_lines.specs.declared.places.StochEntry.{StochEntry}
 use Rattle.stoch_lines.specs.declared.places.StochPlace.{StochPlace}
@@ -18,7 +19,7 @@ use Rattle.scenario_lists.specs.Distinct.{first_of_each, has_place, with_entry}
 use Rattle.scenario_lists.specs.Live.{entry_count, live_beside, live_branches, live_entries, live_products, live_scenario, stays_in, with_live}
 use Rattle.scenario_lists.specs.ScenarioList.{branch_scenarios, inherited, no_scenario, product_scenario_at, scenario_beside, with_branch}
 use Rattle.scenario_lists.specs.declared.data.ScenarioData.{ScenarioData}
-use Rattle.scenario_lists.proofs.Rows.{next_folded, next_made}
+use Rattle.scenario_lists.proofs.Rows.{map_twice, next_folded}
 
 live_append : (live : List Bool) (xs ys : List StochEntry) → live_entries live (xs ++ ys) ≡ live_entries live xs ++ live_entries live ys
 live_append live xs ys = filter-append (λ (e : StochEntry). stays_in live e.place) xs ys
@@ -104,10 +105,6 @@ branches_fold live made (b ∷ bs) =
 pub branches_live : (live : List Bool) (bs : List Branch) → live_branches live bs ≡ map (live_scenario live) (branch_scenarios bs)
 unfolding branch_scenarios
 branches_live live bs = branches_fold live [] bs
-
-map_twice : {X Y Z : Type 0} (g : Y → Z) (f : X → Y) (xs : List X) → map g (map f xs) ≡ map (λ x. g (f x)) xs
-map_twice g f [] = refl
-map_twice g f (x ∷ xs) = ap (λ l. g (f x) ∷ l) (map_twice g f xs)
 
 -- combinations
 pub products_live : (live : List Bool) (es : List Element) → live_products live es ≡ map (live_scenario live) (map (product_scenario_at es) (range_with_len 0 (combinations es)))

@@ -20,7 +20,7 @@ use Rattle.schedule_lines.specs.declared.schedule_fault.ScheduleKind.{ScheduleKi
 use Rattle.schedule_lines.proofs.Telling.{said_on, said_to, told_is}
 
 -- a word of a line, and the words of spans of a line
-abbrev pub a_word : ℕ → List ℕ → LineWord
+abbrev a_word : ℕ → List ℕ → LineWord
 a_word number text = record { line = number; text = text }
 
 abbrev pub span_words : List ℕ → ℕ → List Span → List LineWord

@@ -3,6 +3,7 @@ use Rattle.std.proofs.Common.{◌≡◌, refl, sym, ap, ◌∙◌, ℕ, ◌==◌
 use Rattle.std.specs.Prelude.{◌&&◌, if◌then◌else◌, Option, Some, None, ℤ, pos}
 use Rattle.std.specs.Option.{option_map_or}
 use Rattle.std.proofs.lemmas.List.{append-nil}
+use Rattle.base_words.proofs.Booleans.{and_false}
 use Rattle.line_core.specs.Names.{number_of}
 use Rattle.smps_words.specs.Outcomes.{latest}
 use Rattle.smps_words.specs.TextLines.{TextLine}
@@ -38,10 +39,6 @@ change said kind value = option_map_or (λ k. said k value) kind Kept
 -- the end, moved where the test is true
 abbrev moved : Bool → EndChange → Option ℤ → Option ℤ
 moved test to old = if test && speaks to then end_said to else old
-
-and_false : (t : Bool) → (t && false) ≡ false
-and_false true = refl
-and_false false = refl
 
 and_swap : (s t : Bool) → (s && t) ≡ (t && s)
 and_swap true true = refl

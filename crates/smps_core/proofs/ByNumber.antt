@@ -1,8 +1,9 @@
 -- Lists that have an item for each number below a count.
-use Rattle.std.proofs.Common.{◌≡◌, refl, sym, subst, ap, ◌∙◌, ℕ, zero, suc, ◌+◌, ◌≤◌, ◌<◌, List, [], ◌∷◌, ◌++◌, length, map, get_or, arith}
+use Rattle.std.proofs.Common.{◌≡◌, sym, subst, ap, ◌∙◌, ℕ, ◌+◌, ◌<◌, List, length, map, get_or, arith}
 use Rattle.std.specs.Prelude.{None, Option, ℤ, Bool, unwrap_or}
 use Rattle.std.specs.List.{All, range_with_len}
-use Rattle.std.proofs.lemmas.List.FromFn.{get_or-map-range_with_len, length-map-range_with_len, map-range_with_len_more}
+use Rattle.std.proofs.lemmas.List.FromFn.{get_or-map-range_with_len, length-map-range_with_len}
+use Rattle.base_words.proofs.Made.{same_made}
 use Rattle.dec_core.specs.declared.decimal.Decimal.{Decimal}
 use Rattle.smps_words.specs.CoreFacts.{zero_decimal}
 use Rattle.core_lines.specs.Boxes.{lower_of, upper_of}
@@ -12,16 +13,6 @@ use Rattle.smps_words.specs.declared.core_data.CoreColumn.{CoreColumn}
 use Rattle.smps_words.specs.declared.core_data.RowKind.{RowKind}
 use Rattle.smps_core.specs.CoreData.{side_said, cost_of, rows_of, row_of, columns_of, column_of}
 use Rattle.smps_core.specs.Rows.{row_with, column_with}
-
-same_from : {X : Type 0} (f g : ℕ → X) (a n : ℕ) → ((i : ℕ) → a ≤ i → i < a + n → f i ≡ g i) → map f (range_with_len a n) ≡ map g (range_with_len a n)
-same_from f g a zero same = refl
-same_from {X} f g a (suc n) same =
-    ap (λ (x : X). x ∷ map f (range_with_len (a + 1) n)) (same a (omega arith) (omega arith))
-    ∙ ap (λ (l : List X). g a ∷ l) (same_from f g (a + 1) n (λ i le lt. same i (omega arith) (omega arith)))
-
--- two functions that are the same below a count
-same_below : {X : Type 0} (f g : ℕ → X) (n : ℕ) → ((i : ℕ) → i < n → f i ≡ g i) → map f (range_with_len 0 n) ≡ map g (range_with_len 0 n)
-same_below f g n same = same_from f g 0 n (λ i le lt. same i (omega arith))
 
 -- what holds at each number holds of each item
 pub all_by_number : {X : Type 0} (P : X → Type 0) (f : ℕ → X) (n : ℕ) → ((i : ℕ) → i < n → P (f i)) → All P (map f (range_with_len 0 n))
@@ -41,7 +32,7 @@ pub rows_are : (b : Before) (kinds : List RowKind) (rights ranges : List (Option
 rows_are b kinds rights ranges n rows counted kinds_are right range is =
     is
     ∙ ap (λ (k : List RowKind). map (row_with k rights ranges) (range_with_len 0 n)) kinds_are
-    ∙ same_below (row_with b.rows.kinds rights ranges) (row_of b) n (λ i lt. row_by b rights ranges i (right (i + 1) (omega (arith, lt))) (range (i + 1) (omega (arith, lt))))
+    ∙ same_made (row_with b.rows.kinds rights ranges) (row_of b) n (λ i lt. row_by b rights ranges i (right (i + 1) (omega (arith, lt))) (range (i + 1) (omega (arith, lt))))
     ∙ ap (λ (m : ℕ). map (row_of b) (range_with_len 0 m)) counted
 
 column_by : (b : Before) (lowers uppers : List (Option ℤ)) (costs : List (Option Decimal)) (j : ℕ) → get_or lowers j None ≡ lower_of b.bounds.bounds j → get_or uppers j None ≡ upper_of b.bounds.bounds j → get_or costs j None ≡ cost_of b.columns.cells j → column_with lowers uppers b.columns.flags costs j ≡ column_of b j
@@ -58,10 +49,5 @@ columns_are b lowers uppers flags costs n columns counted flags_are costs_counte
     is
     ∙ ap (λ (f : List Bool). map (column_with lowers uppers f costs) (range_with_len 0 (length costs))) flags_are
     ∙ ap (λ (m : ℕ). map (column_with lowers uppers b.columns.flags costs) (range_with_len 0 m)) costs_counted
-    ∙ same_below (column_with lowers uppers b.columns.flags costs) (column_of b) n (λ j lt. column_by b lowers uppers costs j (lower j lt) (upper j lt) (cost j lt))
+    ∙ same_made (column_with lowers uppers b.columns.flags costs) (column_of b) n (λ j lt. column_by b lowers uppers costs j (lower j lt) (upper j lt) (cost j lt))
     ∙ ap (λ (m : ℕ). map (column_of b) (range_with_len 0 m)) counted
-
--- one more item in the course of a loop
-pub one_number_more : {X : Type 0} (f : ℕ → X) (n : ℕ) (xs new : List X) (x : X) → xs ≡ map f (range_with_len 0 n) → x ≡ f n → new ≡ xs ++ x ∷ [] → new ≡ map f (range_with_len 0 (n + 1))
-one_number_more {X} f n xs new x before item is =
-    is ∙ ap (λ (l : List X). l ++ x ∷ []) before ∙ ap (λ (y : X). map f (range_with_len 0 n) ++ y ∷ []) item ∙ sym (map-range_with_len_more f 0 n n (omega arith))

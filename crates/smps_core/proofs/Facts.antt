@@ -8,8 +8,9 @@ use Rattle.std.proofs.lemmas.List.Elements.{All-head, All-tail, All-map, All-fil
 use Rattle.std.proofs.lemmas.List.FromFn.{length-map-range_with_len}
 use Rattle.std.proofs.lemmas.List.Sorted.{All-permutation}
 use Rattle.base_words.proofs.Magnitudes.{abs_opposite}
+use Rattle.base_words.specs.Signs.{limit_size}
 use Rattle.dec_core.specs.declared.decimal.Decimal.{Decimal}
-use Rattle.smps_words.specs.CoreFacts.{CoreFacts, IsShort, end_size, is_empty_box, max_columns, max_end, max_rows, zero_decimal}
+use Rattle.smps_words.specs.CoreFacts.{CoreFacts, IsShort, is_empty_box, max_columns, max_end, max_rows, zero_decimal}
 use Rattle.smps_words.specs.Outcomes.{latest}
 use Rattle.smps_words.specs.declared.core_data.CoreRow.{CoreRow}
 use Rattle.smps_words.specs.declared.core_data.CoreColumn.{CoreColumn}
@@ -44,11 +45,11 @@ side_short values shorts place = latest_has (λ (o : Option Decimal). IsShort (u
 cost_short : (cells : List Cell) → All (λ (c : Cell). IsShort c.value) cells → (j : ℕ) → IsShort (unwrap_or (cost_of cells j) zero_decimal)
 cost_short cells shorts j = latest_has (λ (o : Option Decimal). IsShort (unwrap_or o zero_decimal)) (is_cell_of 0 j) (λ (c : Cell). Some c.value) None cells zero_short shorts
 
-lower_small : (bounds : List Bound) → All (λ (b : Bound). end_size (end_said b.lower) ≤ max_end) bounds → (j : ℕ) → end_size (lower_of bounds j) ≤ max_end
-lower_small bounds small j = latest_has (λ (o : Option ℤ). end_size o ≤ max_end) (λ (b : Bound). speaks b.lower && (b.column == j)) (λ (b : Bound). end_said b.lower) (Some (pos 0)) bounds (lit≤ tt) small
+lower_small : (bounds : List Bound) → All (λ (b : Bound). limit_size (end_said b.lower) ≤ max_end) bounds → (j : ℕ) → limit_size (lower_of bounds j) ≤ max_end
+lower_small bounds small j = latest_has (λ (o : Option ℤ). limit_size o ≤ max_end) (λ (b : Bound). speaks b.lower && (b.column == j)) (λ (b : Bound). end_said b.lower) (Some (pos 0)) bounds (lit≤ tt) small
 
-upper_small : (bounds : List Bound) → All (λ (b : Bound). end_size (end_said b.upper) ≤ max_end) bounds → (j : ℕ) → end_size (upper_of bounds j) ≤ max_end
-upper_small bounds small j = latest_has (λ (o : Option ℤ). end_size o ≤ max_end) (λ (b : Bound). speaks b.upper && (b.column == j)) (λ (b : Bound). end_said b.upper) None bounds (lit≤ tt) small
+upper_small : (bounds : List Bound) → All (λ (b : Bound). limit_size (end_said b.upper) ≤ max_end) bounds → (j : ℕ) → limit_size (upper_of bounds j) ≤ max_end
+upper_small bounds small j = latest_has (λ (o : Option ℤ). limit_size o ≤ max_end) (λ (b : Bound). speaks b.upper && (b.column == j)) (λ (b : Bound). end_said b.upper) None bounds (lit≤ tt) small
 
 none_passes : (n : ℕ) (p : ℕ → Bool) (j : ℕ) → any_below n p ≡ false → j < n → p j ≡ false
 none_passes n p j none lt = by (p j) refl
@@ -97,8 +98,8 @@ made_facts b marks right_flags range_flags bound_flags entries few columns right
       costs = all_by_number (λ (c : CoreColumn). IsShort c.cost) (column_of b) n (λ j lt. cost_short b.columns.cells columns.values j);
       values = All-permutation (λ (e : CoreEntry). IsShort e.value) (entries_of b.columns.cells) entries ordered.0 (All-map (λ (e : CoreEntry). IsShort e.value) entry_of (filter is_entry b.columns.cells) (All-filter is_entry (λ (c : Cell). IsShort c.value) b.columns.cells columns.values));
       constant_short = minus_short (unwrap_or (side_said b.rights.values 0) zero_decimal) (side_short b.rights.values rights.shorts 0);
-      lowers = all_by_number (λ (c : CoreColumn). end_size c.lower ≤ max_end) (column_of b) n (λ j lt. lower_small b.bounds.bounds bounds.lowers j);
-      uppers = all_by_number (λ (c : CoreColumn). end_size c.upper ≤ max_end) (column_of b) n (λ j lt. upper_small b.bounds.bounds bounds.uppers j);
+      lowers = all_by_number (λ (c : CoreColumn). limit_size c.lower ≤ max_end) (column_of b) n (λ j lt. lower_small b.bounds.bounds bounds.lowers j);
+      uppers = all_by_number (λ (c : CoreColumn). limit_size c.upper ≤ max_end) (column_of b) n (λ j lt. upper_small b.bounds.bounds bounds.uppers j);
       filled = all_by_number (λ (c : CoreColumn). is_empty_box c.lower c.upper ≡ false) (column_of b) n (λ j lt. none_passes n (λ j. is_empty_box (lower_of b.bounds.bounds j) (upper_of b.bounds.bounds j)) j fits.filled lt);
     }
 

@@ -12,7 +12,8 @@ use Rattle.std.proofs.lemmas.List.Quantifiers.{all_pairs_push, position-Some}
 use Rattle.std.proofs.lemmas.List.Folds.{list_any_at}
 use Rattle.std.proofs.lemmas.List.Sums.{fold-append}
 use Rattle.std.proofs.lemmas.Slice.Eq.{bytes_eq-Decides}
-use Rattle.line_core.proofs.Numbered.{any_none}
+use Rattle.base_words.proofs.Positions.{any_none}
+use Rattle.base_words.proofs.FirstAnswers.{same_some}
 use Rattle.line_core.specs.Names.{number_of}
 use Rattle.smps_words.proofs.ToldLaws.{told_push}
 use Rattle.smps_words.specs.Outcomes.{all_told}
@@ -147,9 +148,6 @@ rise gives lines names name old j k less lt =
           omega (arith, first, second, there)
     ]
 
-some_is : (x y : List ℕ) → Some x ≡ Some y → x ≡ y
-some_is x y is = cc
-
 -- a line that gives a new name
 new_name : (gives : Asks (Option (List ℕ))) (lines : List TextLine) (line : TextLine) (names : List (List ℕ)) (name : List ℕ) → gives lines line ≡ Some name → number_of name names ≡ None → AreInOrder gives lines names → AreInOrder gives (lines ++ line ∷ []) (names ++ name ∷ [])
 new_name gives lines line names name given none old = record {
@@ -157,13 +155,13 @@ new_name gives lines line names name given none old = record {
   place = placed (length names) (length lines) old.place;
   first = firsts gives lines line names name given none old;
   rising = rise gives lines names name old;
-  whole = whole_more gives lines line names (names ++ name ∷ []) old.whole (λ other there. Contains-append_left names (name ∷ []) other there) (λ other is. subst (λ (n : List ℕ). Contains (names ++ name ∷ []) n) (some_is name other (sym given ∙ is)) (Contains-push names name));
+  whole = whole_more gives lines line names (names ++ name ∷ []) old.whole (λ other there. Contains-append_left names (name ∷ []) other there) (λ other is. subst (λ (n : List ℕ). Contains (names ++ name ∷ []) n) (same_some (sym given ∙ is)) (Contains-push names name));
 }
 
 -- a line that gives a name, new or not
 by_number : (gives : Asks (Option (List ℕ))) (lines : List TextLine) (line : TextLine) (names : List (List ℕ)) (name : List ℕ) (number : Option ℕ) → gives lines line ≡ Some name → number_of name names ≡ number → AreInOrder gives lines names → AreInOrder gives (lines ++ line ∷ []) (if is_none number then names ++ name ∷ [] else names)
 by_number gives lines line names name None given none old = new_name gives lines line names name given none old
-by_number gives lines line names name (Some i) given is old = same_names gives lines line names old (λ other same. subst (λ (n : List ℕ). Contains names n) (some_is name other (sym given ∙ same)) (there_by name names i is))
+by_number gives lines line names name (Some i) given is old = same_names gives lines line names old (λ other same. subst (λ (n : List ℕ). Contains names n) (same_some (sym given ∙ same)) (there_by name names i is))
 
 by_given : (gives : Asks (Option (List ℕ))) (lines : List TextLine) (line : TextLine) (names : List (List ℕ)) (given : Option (List ℕ)) → gives lines line ≡ given → AreInOrder gives lines names → AreInOrder gives (lines ++ line ∷ []) (fold grown names (option_to_list given))
 by_given gives lines line names None is old = same_names gives lines line names old (λ other same. absurd (cc (sym is ∙ same)))

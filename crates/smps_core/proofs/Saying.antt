@@ -1,18 +1,19 @@
 -- What lists of lines tell is what one of the lines tells, behind those before it; so with the pairs of COLUMNS, and the entries made of them.
-use Rattle.std.proofs.Common.{◌≡◌, refl, sym, subst, ap, ◌∙◌, ℕ, suc, zero, ◌+◌, ◌-◌, ◌<◌, Bool, true, false, List, [], ◌∷◌, ◌++◌, length, map, take, get_or, append_assoc, inl, inr, arith}
+use Rattle.std.proofs.Common.{◌≡◌, refl, sym, subst, ap, ◌∙◌, ℕ, suc, zero, ◌+◌, ◌-◌, ◌<◌, Bool, true, false, List, [], ◌∷◌, ◌++◌, length, map, take, get_or, inl, inr, arith}
 use Rattle.std.specs.Prelude.{◌⊎◌, ◌&&◌, cond, not, if◌then◌else◌, Option, Some, None}
 use Rattle.std.specs.List.{Contains, filter}
 use Rattle.std.proofs.lemmas.Bool.{cases_eq}
 use Rattle.std.proofs.lemmas.Grind.{common_steps}
-use Rattle.std.proofs.lemmas.List.{append-nil, get_or-map, length-map}
+use Rattle.std.proofs.lemmas.List.{get_or-map, length-map}
 use Rattle.std.proofs.lemmas.List.Elements.{All-contains_itself, All-filter, Contains-append_left, Contains-append_right, Contains-append_cases, filter_passes}
 use Rattle.std.proofs.lemmas.List.Sorted.{Contains-permutation, IsPermutation-sym}
 use Rattle.base_words.proofs.FirstAnswers.{same_some}
+use Rattle.base_words.proofs.Positions.{none_in}
+use Rattle.smps_words.proofs.ToldAt.{Told, at_told, told_at}
 use Rattle.dec_core.specs.declared.decimal.Decimal.{Decimal}
 use Rattle.smps_words.specs.CoreFacts.{zero_decimal}
 use Rattle.line_core.specs.Names.{number_of}
 use Rattle.smps_words.specs.NumberFields.{number_in}
-use Rattle.smps_words.specs.Outcomes.{all_told}
 use Rattle.smps_words.specs.Outcomes.Outcome.{Ended}
 use Rattle.smps_words.specs.TextLines.{TextLine, field, no_line}
 use Rattle.smps_words.specs.declared.core_data.CoreEntry.{CoreEntry}
@@ -28,29 +29,6 @@ use Rattle.smps_core.proofs.RowsStay.{rows_stay}
 use Rattle.smps_core.proofs.WholeNames.{number_in_all}
 use Rattle.smps_core.specs.CoreData.{AreEntriesOf, entries_of, entry_of, is_entry}
 use Rattle.smps_core.specs.Laws.{BothWays, HasPair, HasPairAt, IsColumnsLine, IsSaid, IsSaidByAll, SaysCell, cell_at}
-
-none_in : {X : Type 0} (x : X) → Contains [] x → ⊥
-none_in x (k, lt, is) = omega (arith, lt)
-
--- one of the lines tells x, behind those before it
-abbrev IsTold : {L X : Type 0} → (List L → L → List X) → L → X → List L → List L → Type 0
-IsTold tells d x before xs = (n : ℕ) × (n < length xs) × Contains (tells (before ++ take n xs) (get_or xs n d)) x
-
-later : {L X : Type 0} (tells : List L → L → List X) (d : L) (x : X) (before : List L) (line : L) (rest : List L) → IsTold tells d x (before ++ line ∷ []) rest → IsTold tells d x before (line ∷ rest)
-later {L} tells d x before line rest (n, lt, found) = (suc n, omega (arith, lt), subst (λ (b : List L). Contains (tells b (get_or rest n d)) x) (append_assoc before (line ∷ []) (take n rest)) found)
-
-here_or_later : {L X : Type 0} (tells : List L → L → List X) (d : L) (x : X) (before : List L) (line : L) (rest : List L) → (Contains (all_told tells (before ++ line ∷ []) rest) x → IsTold tells d x (before ++ line ∷ []) rest) → Contains (tells before line) x ⊎ Contains (all_told tells (before ++ line ∷ []) rest) x → IsTold tells d x before (line ∷ rest)
-here_or_later {L} tells d x before line rest on (inl here) = (0, omega arith, subst (λ (b : List L). Contains (tells b line) x) (sym (append-nil before)) here)
-here_or_later tells d x before line rest on (inr there) = later tells d x before line rest (on there)
-
-at_a_line : {L X : Type 0} (tells : List L → L → List X) (d : L) (x : X) (before xs : List L) → Contains (all_told tells before xs) x → IsTold tells d x before xs
-at_a_line tells d x before [] there = absurd (none_in x there)
-at_a_line tells d x before (line ∷ rest) there = here_or_later tells d x before line rest (at_a_line tells d x (before ++ line ∷ []) rest) (Contains-append_cases (tells before line) (all_told tells (before ++ line ∷ []) rest) x there)
-
-by_a_line : {L X : Type 0} (tells : List L → L → List X) (d : L) (x : X) (before xs : List L) (n : ℕ) → n < length xs → Contains (tells (before ++ take n xs) (get_or xs n d)) x → Contains (all_told tells before xs) x
-by_a_line tells d x before [] n lt found = absurd (omega (arith, lt))
-by_a_line {L} tells d x before (line ∷ rest) zero lt found = Contains-append_left (tells before line) (all_told tells (before ++ line ∷ []) rest) x (subst (λ (b : List L). Contains (tells b line) x) (append-nil before) found)
-by_a_line {L} tells d x before (line ∷ rest) (suc n) lt found = Contains-append_right (tells before line) (all_told tells (before ++ line ∷ []) rest) x (by_a_line tells d x (before ++ line ∷ []) rest n (omega (arith, lt)) (subst (λ (b : List L). Contains (tells b (get_or rest n d)) x) (sym (append_assoc before (line ∷ []) (take n rest))) found))
 
 -- the pair of a row that isn't ignored
 abbrev AreParts : Option ℕ → ℕ → Decimal → ℕ → Cell → Type 0
@@ -122,14 +100,14 @@ says_told lines c n lt (columns, parts) = (lt, columns, to_pair (take n lines) (
 told_said : (lines : List TextLine) (c : Cell) (n : ℕ) → SaysCell (rows_of (take n lines)) lines c n → TellsCell (take n lines) (get_or lines n no_line) c
 told_said lines c n (lt, columns, pair) = (columns, to_parts (take n lines) (column_names_of lines) (get_or lines n no_line) c (number_in_all lines n lt columns) pair)
 
-is_said : (lines : List TextLine) (c : Cell) → IsTold tells no_line c [] lines → IsSaid lines c
+is_said : (lines : List TextLine) (c : Cell) → Told tells no_line c [] lines → IsSaid lines c
 is_said lines c (n, lt, found) = (n, says_told lines c n lt (said_by_line (take n lines) (get_or lines n no_line) c _ _ _ refl refl refl found))
 
 is_told : (lines : List TextLine) (c : Cell) → IsSaid lines c → Contains (cells_of lines) c
-is_told lines c (n, says) = by_a_line tells no_line c [] lines n says.0 (line_says (take n lines) (get_or lines n no_line) c (told_said lines c n says))
+is_told lines c (n, says) = at_told tells no_line c [] lines n says.0 (line_says (take n lines) (get_or lines n no_line) c (told_said lines c n says))
 
 pub said_both : (lines : List TextLine) (c : Cell) → BothWays (Contains (cells_of lines) c) (IsSaid lines c)
-said_both lines c = (λ there. is_said lines c (at_a_line tells no_line c [] lines there), is_told lines c)
+said_both lines c = (λ there. is_said lines c (told_at tells no_line c [] lines there), is_told lines c)
 
 -- a line of COLUMNS stands in that section
 in_columns : (header columns : Bool) → (not header && columns) ≡ true → columns ≡ true

@@ -1,13 +1,12 @@
 -- A column that a line names has the same number by the names of the whole file.
 use Rattle.std.proofs.Common.{◌≡◌, refl, sym, subst, ap, ◌∙◌, ℕ, ◌+◌, ◌<◌, Bool, true, false, List, [], ◌∷◌, ◌++◌, length, fold, take, drop, get_or, length-append, arith}
-use Rattle.std.specs.Prelude.{cond, if◌then◌else◌, nat_lt, Option, Some, None, is_none, position, unwrap_or}
+use Rattle.std.specs.Prelude.{if◌then◌else◌, Option, Some, None, is_none, position, unwrap_or}
 use Rattle.std.specs.Str.{bytes_eq}
 use Rattle.std.proofs.lemmas.Bool.{false_from_ne_true}
-use Rattle.std.proofs.lemmas.Bool.Decides.{nat_tests}
 use Rattle.std.proofs.lemmas.List.{get_or_append_left, get_or_at, length_push, take-append-drop, take_more}
 use Rattle.std.proofs.lemmas.List.Quantifiers.{position-Some}
-use Rattle.std.proofs.lemmas.List.Sums.{position_or_len_is}
 use Rattle.std.proofs.lemmas.Slice.Eq.{bytes_eq-Decides}
+use Rattle.base_words.proofs.Positions.{place_at}
 use Rattle.line_core.specs.Names.{number_of}
 use Rattle.smps_words.specs.TextLines.{TextLine, field, no_line}
 use Rattle.core_lines.proofs.NextLaw.{goes_on}
@@ -19,26 +18,20 @@ use Rattle.smps_core.proofs.Accepted.{by_lines}
 use Rattle.smps_core.proofs.NameOrders.{other_names}
 use Rattle.smps_core.specs.Laws.{IsColumnsLine}
 
-place_is : {X : Type 0} (p : X → Bool) (xs : List X) (i : ℕ) (d : X) → i < length xs → p (get_or xs i d) ≡ true → ((k : ℕ) → k < i → p (get_or xs k d) ≡ false) → position p xs ≡ Some i
-place_is p xs i d lt passes fails =
-    let inside : nat_lt i (length xs) ≡ true = grind (arith, nat_tests) in
-    ap (λ (k : ℕ). cond (nat_lt k (length xs)) (Some k) None) (position_or_len_is p xs i d (omega (arith, lt)) fails (λ less. passes))
-    ∙ ap (λ (t : Bool). cond t (Some i) None) inside
-
 -- a name keeps its number where others come behind it
 number_kept : (name : List ℕ) (names more : List (List ℕ)) (i : ℕ) → number_of name names ≡ Some i → number_of name (names ++ more) ≡ Some i
 number_kept name names more i is =
     let there = position-Some (bytes_eq name) names i [] is in
     let inside : i < length names = there.0 in
     let long = length-append names more in
-    place_is (bytes_eq name) (names ++ more) i [] (omega (arith, inside, long)) (ap (bytes_eq name) (get_or_append_left names more [] i inside) ∙ there.1) (λ k lt. ap (bytes_eq name) (get_or_append_left names more [] k (omega (arith, lt, inside))) ∙ there.2 k lt)
+    place_at (bytes_eq name) (names ++ more) i [] (omega (arith, inside, long)) (λ k lt. ap (bytes_eq name) (get_or_append_left names more [] k (omega (arith, lt, inside))) ∙ there.2 k lt) (ap (bytes_eq name) (get_or_append_left names more [] i inside) ∙ there.1)
 
 -- a new name has the next number
 number_last : (name : List ℕ) (names : List (List ℕ)) → number_of name names ≡ None → number_of name (names ++ name ∷ []) ≡ Some (length names)
 number_last name names none =
     let long = length_push names name in
     let absent : (k : ℕ) → k < length names → bytes_eq name (get_or names k []) ≡ false = λ k lt. false_from_ne_true (bytes_eq name (get_or names k [])) (λ same. other_names name names none k [] lt (sym ((bytes_eq-Decides name (get_or names k [])).0 same))) in
-    place_is (bytes_eq name) (names ++ name ∷ []) (length names) [] (omega (arith, long)) (ap (bytes_eq name) (get_or_at names name [] [] (length names) refl) ∙ (bytes_eq-Decides name name).1 refl) (λ k lt. ap (bytes_eq name) (get_or_append_left names (name ∷ []) [] k lt) ∙ absent k lt)
+    place_at (bytes_eq name) (names ++ name ∷ []) (length names) [] (omega (arith, long)) (λ k lt. ap (bytes_eq name) (get_or_append_left names (name ∷ []) [] k lt) ∙ absent k lt) (ap (bytes_eq name) (get_or_at names name [] [] (length names) refl) ∙ (bytes_eq-Decides name name).1 refl)
 
 -- the number of a name that is taken up, if it is new
 number_taken : (name : List ℕ) (names : List (List ℕ)) (n : Option ℕ) → number_of name names ≡ n → number_of name (if is_none n then names ++ name ∷ [] else names) ≡ Some (unwrap_or n (length names))

@@ -1,21 +1,10 @@
-ghost use Rattle.std.specs.Prelude.{◌≡◌, ℕ, ◌<◌, ◌==◌, None, Some, length, replicate, slice_index_or, slice_set, IfOk, if◌then◌else◌};
+ghost use Rattle.std.specs.Prelude.{◌≡◌, ℕ, ◌<◌, ◌==◌, None, Some, length, slice_index_or, slice_set, IfOk, if◌then◌else◌};
 ghost use Rattle.smps_core.specs.CoreData.{cost_of, side_said};
 
 use core_lines::{Cell, RowValue};
 use dec_core::Decimal;
 use std::alloc::{AllocError, Global};
 use wide_num::List;
-
-// So many places without a number.
-fn without_numbers(alloc: Global, count: usize) -> Result<List<Option<Decimal>>, AllocError>
-    ensures { IfOk result (λ numbers. numbers ≡ replicate count None) }
-{
-    let mut numbers = List::new(alloc);
-    for _ in 0..count {
-        numbers.push(None)?;
-    }
-    Ok(numbers)
-}
 
 // Puts a number in its place, if there is one.
 fn put(numbers: &mut List<Option<Decimal>>, place: u32, number: Decimal)
@@ -48,7 +37,7 @@ pub fn sides_of(
         (λ sides. (place : ℕ) → place < count →
         slice_index_or sides place None ≡ side_said values.now place) }
 {
-    let mut sides = without_numbers(alloc, count)?;
+    let mut sides: List<Option<Decimal>> = List::repeated(alloc, None, count)?;
     for value in values {
         put(&mut sides, value.row, value.value);
     }
@@ -65,7 +54,7 @@ pub fn costs_of(
     ensures each { IfOk result
         (λ costs. (j : ℕ) → j < count → slice_index_or costs j None ≡ cost_of cells.now j) }
 {
-    let mut costs = without_numbers(alloc, count)?;
+    let mut costs: List<Option<Decimal>> = List::repeated(alloc, None, count)?;
     for cell in cells {
         put_cost(&mut costs, cell.row, cell.column, cell.value);
     }

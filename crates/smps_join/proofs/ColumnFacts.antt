@@ -6,9 +6,10 @@ use Rattle.std.proofs.lemmas.List.{get_or-map}
 use Rattle.std.proofs.lemmas.List.FromFn.{get_or-map-range_with_len, length-map-range_with_len, length-range_with_len}
 use Rattle.std.proofs.lemmas.List.Sums.{count_by-le-length}
 use Rattle.base_words.proofs.Comparisons.{above_from_test}
+use Rattle.base_words.specs.Signs.{limit_size}
 use Rattle.boxed_problem.specs.Sides.{no_side, side_at}
 use Rattle.boxed_problem.specs.declared.parts.Side.{Side}
-use Rattle.smps_words.specs.CoreFacts.{end_size, is_empty_box, max_end}
+use Rattle.smps_words.specs.CoreFacts.{is_empty_box, max_end}
 use Rattle.smps_words.specs.Stages.{IsStageOf, stage_in}
 use Rattle.smps_words.specs.declared.core_file.Core.{Core}
 use Rattle.smps_words.specs.declared.periods.Periods.{Periods}
@@ -31,7 +32,7 @@ abs_range : (z : ℤ) → unsigned_abs z ≤ 1000000000 → (neg_ℤ (pos 100000
 abs_range (pos a) h = (omega (arith, ints, h), omega (arith, ints, h))
 abs_range (negsuc a) h = (omega (arith, ints, h), omega (arith, ints, h))
 
-box_is : (missing : ℤ) (lower upper : Option ℤ) → pos 1 ≤ℤ missing → missing ≤ℤ pos 1000000000 → end_size lower ≤ max_end → end_size upper ≤ max_end → is_empty_box lower upper ≡ false → IsBox (filled missing lower upper)
+box_is : (missing : ℤ) (lower upper : Option ℤ) → pos 1 ≤ℤ missing → missing ≤ℤ pos 1000000000 → limit_size lower ≤ max_end → limit_size upper ≤ max_end → is_empty_box lower upper ≡ false → IsBox (filled missing lower upper)
 box_is missing (Some l) (Some u) some most low high filled = let a = abs_range l (omega (arith, low)) in let b = abs_range u (omega (arith, high)) in record { filled = above_from_test u l filled; low = a.0; high = b.1 }
 box_is missing (Some l) None some most low high filled = let a = abs_range l (omega (arith, low)) in let a0 = a.0 in let a1 = a.1 in record { filled = omega (arith, ints, clamps); low = a0; high = omega (arith, ints, clamps) }
 box_is missing None (Some u) some most low high filled = let b = abs_range u (omega (arith, high)) in let b0 = b.0 in let b1 = b.1 in record { filled = omega (arith, ints, clamps); low = omega (arith, ints, clamps); high = b1 }

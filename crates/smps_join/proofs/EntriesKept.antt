@@ -7,6 +7,7 @@ use Rattle.std.proofs.lemmas.List.Elements.{All-filter, All-map, filter_passes}
 use Rattle.std.proofs.lemmas.List.Kept.{AllPairs-filter}
 use Rattle.std.proofs.lemmas.List.FromFn.{get_or-map-range_with_len, length-map-range_with_len}
 use Rattle.base_words.proofs.Magnitudes.{abs_none}
+use Rattle.smps_words.proofs.EntryOrder.{before_before}
 use Rattle.boxed_problem.specs.BoxedFacts.{ComesBefore, entry_at, no_entry}
 use Rattle.boxed_problem.specs.Sides.{no_side, reach, side_at}
 use Rattle.boxed_problem.specs.declared.parts.Entry.{Entry}
@@ -24,30 +25,25 @@ use Rattle.join_words.specs.RunOf.{column_of, columns_of, entries_of, entry_of, 
 use Rattle.join_words.specs.declared.frame.Frame.{Frame}
 
 -- neighbours in order make all pairs in order
-abbrev Before : CoreEntry → CoreEntry → Type 0
-Before e f = core_facts.ComesBefore e f
 
-chained : (e f g : CoreEntry) → Before e f → Before f g → Before e g
-chained e f g p q = let p0 = p.0 in let q0 = q.0 in (omega (arith, p0, q0), λ same. let first = p.1 (omega (arith, p0, q0, same)) in let second = q.1 (omega (arith, p0, q0, same)) in omega (arith, first, second))
-
-far : (es : List CoreEntry) → ((k : ℕ) → k + 1 < length es → Before (core_facts.entry_at es k) (core_facts.entry_at es (k + 1))) → (i n : ℕ) → i + suc n < length es → Before (core_facts.entry_at es i) (core_facts.entry_at es (i + suc n))
-far es h i zero lt = let e : i + 1 ≡ i + suc zero = omega arith in let P : ℕ → Type 0 = λ m. Before (core_facts.entry_at es i) (core_facts.entry_at es m) in subst P e (h i (omega (arith, lt)))
+far : (es : List CoreEntry) → ((k : ℕ) → k + 1 < length es → core_facts.ComesBefore (core_facts.entry_at es k) (core_facts.entry_at es (k + 1))) → (i n : ℕ) → i + suc n < length es → core_facts.ComesBefore (core_facts.entry_at es i) (core_facts.entry_at es (i + suc n))
+far es h i zero lt = let e : i + 1 ≡ i + suc zero = omega arith in let P : ℕ → Type 0 = λ m. core_facts.ComesBefore (core_facts.entry_at es i) (core_facts.entry_at es m) in subst P e (h i (omega (arith, lt)))
 far es h i (suc n) lt =
     let e : (i + suc n) + 1 ≡ i + suc (suc n) = omega arith in
-    let P : ℕ → Type 0 = λ m. Before (core_facts.entry_at es (i + suc n)) (core_facts.entry_at es m) in
-    chained (core_facts.entry_at es i) (core_facts.entry_at es (i + suc n)) (core_facts.entry_at es (i + suc (suc n))) (far es h i n (omega (arith, lt))) (subst P e (h (i + suc n) (omega (arith, lt))))
+    let P : ℕ → Type 0 = λ m. core_facts.ComesBefore (core_facts.entry_at es (i + suc n)) (core_facts.entry_at es m) in
+    before_before (core_facts.entry_at es i) (core_facts.entry_at es (i + suc n)) (core_facts.entry_at es (i + suc (suc n))) (far es h i n (omega (arith, lt))) (subst P e (h (i + suc n) (omega (arith, lt))))
 
 at_default : (es : List CoreEntry) (k : ℕ) (d : CoreEntry) → k < length es → core_facts.entry_at es k ≡ get_or es k d
 at_default es k d lt = get_or_default es k core_facts.no_entry d lt
 
-core_pairs : (core : Core) → AllPairs Before core.entries
+core_pairs : (core : Core) → AllPairs core_facts.ComesBefore core.entries
 core_pairs core i j d before lt =
     let n : ℕ = j - suc i in
     let e : i + suc n ≡ j = omega (arith, before) in
-    let P : ℕ → Type 0 = λ m. Before (core_facts.entry_at core.entries i) (core_facts.entry_at core.entries m) in
+    let P : ℕ → Type 0 = λ m. core_facts.ComesBefore (core_facts.entry_at core.entries i) (core_facts.entry_at core.entries m) in
     let far_apart = subst P e (far core.entries core.facts.ascending i n (omega (arith, e, lt))) in
-    let Q : CoreEntry → Type 0 = λ x. Before x (core_facts.entry_at core.entries j) in
-    let R : CoreEntry → Type 0 = λ y. Before (get_or core.entries i d) y in
+    let Q : CoreEntry → Type 0 = λ x. core_facts.ComesBefore x (core_facts.entry_at core.entries j) in
+    let R : CoreEntry → Type 0 = λ y. core_facts.ComesBefore (get_or core.entries i d) y in
     subst R (at_default core.entries j d lt) (subst Q (at_default core.entries i d (omega (arith, before, lt))) far_apart)
 
 -- those that stay
@@ -60,7 +56,7 @@ entries_ascend core frame k lt =
     let long = length-map kept (entry_of frame) in
     let first : k < length kept = omega (arith, long, lt) in
     let second : k + 1 < length kept = omega (arith, long, lt) in
-    let pair = AllPairs-filter Before (λ (e : CoreEntry). stays frame.sides e.column) core.entries (core_pairs core) k (k + 1) core_facts.no_entry (omega arith) second in
+    let pair = AllPairs-filter core_facts.ComesBefore (λ (e : CoreEntry). stays frame.sides e.column) core.entries (core_pairs core) k (k + 1) core_facts.no_entry (omega arith) second in
     let at_first = get_or-map (entry_of frame) kept k core_facts.no_entry no_entry first in
     let at_second = get_or-map (entry_of frame) kept (k + 1) core_facts.no_entry no_entry second in
     let P : Entry → Type 0 = λ e. ComesBefore e (entry_at (entries_of (parts_of core) frame) (k + 1)) in

@@ -8,13 +8,12 @@ use Rattle.std.proofs.Math.ListN.{get_or-eq_default}
 use Rattle.std.proofs.Math.Nat.{mul-le-mul}
 use Rattle.base_words.specs.Gathered.{gathered}
 use Rattle.capped_num.specs.Capped.{capped}
-use Rattle.smps_stoch.specs.StochFacts.{IsWeight}
+use Rattle.smps_stoch.specs.StochFacts.{AreOfTwoPlaces, IsWeight}
 use Rattle.smps_stoch.specs.declared.stoch.Branch.{Branch}
 use Rattle.smps_stoch.specs.declared.stoch.Element.{Element}
 use Rattle.smps_stoch.specs.declared.stoch.Realisation.{Realisation}
 use Rattle.smps_stoch.specs.declared.stoch.Stoch.{Stoch}
 use Rattle.smps_stoch.specs.declared.stoch.Stoch.TheVariants.{Product, Scenarios}
-use Rattle.stoch_lines.specs.Places.{same_place}
 use Rattle.stoch_lines.specs.declared.places.StochEntry.{StochEntry}
 use Rattle.smps_stoch.specs.StochData.{no_realisation}
 use Rattle.scenario_lists.specs.Combinations.{AreChoices, choices_of, chosen_at, combinations, entries_at, entries_in, no_element, realisations_at, weight_below}
@@ -96,18 +95,14 @@ module _ (P : StochEntry → Type 0) where
   listed_all (Product es) h = product_all es h
   listed_all (Scenarios bs) h = branch_all [] bs (no_items (λ (s : ScenarioData). All P s.entries)) (recursion_from_All (λ (b : Branch). All P b.entries) bs h)
 
--- no place stands twice
-abbrev pub Differ : StochEntry → StochEntry → Type 0
-Differ e f = same_place e.place f.place ≡ false
-
-branch_apart : (made : List ScenarioData) (bs : List Branch) → All (λ (s : ScenarioData). AllPairs Differ s.entries) made → All (λ (s : ScenarioData). AllPairs Differ s.entries) (fold with_branch made bs)
+branch_apart : (made : List ScenarioData) (bs : List Branch) → All (λ (s : ScenarioData). AllPairs AreOfTwoPlaces s.entries) made → All (λ (s : ScenarioData). AllPairs AreOfTwoPlaces s.entries) (fold with_branch made bs)
 branch_apart made [] h = h
-branch_apart made (b ∷ bs) h = branch_apart (with_branch made b) bs (All-push (λ (s : ScenarioData). AllPairs Differ s.entries) made (scenario_beside made b) h (apart (b.entries ++ inherited made b.parent)))
+branch_apart made (b ∷ bs) h = branch_apart (with_branch made b) bs (All-push (λ (s : ScenarioData). AllPairs AreOfTwoPlaces s.entries) made (scenario_beside made b) h (apart (b.entries ++ inherited made b.parent)))
 
-pub listed_apart : (stoch : Stoch) → All (λ (s : ScenarioData). AllPairs Differ s.entries) (scenarios_of stoch)
+pub listed_apart : (stoch : Stoch) → All (λ (s : ScenarioData). AllPairs AreOfTwoPlaces s.entries) (scenarios_of stoch)
 unfolding branch_scenarios
-listed_apart (Product es) = All-map (λ (s : ScenarioData). AllPairs Differ s.entries) (product_scenario_at es) (range_with_len 0 (combinations es)) (λ k d lt. apart (entries_in es (choices_of es (get_or (range_with_len 0 (combinations es)) k d))))
-listed_apart (Scenarios bs) = branch_apart [] bs (no_items (λ (s : ScenarioData). AllPairs Differ s.entries))
+listed_apart (Product es) = All-map (λ (s : ScenarioData). AllPairs AreOfTwoPlaces s.entries) (product_scenario_at es) (range_with_len 0 (combinations es)) (λ k d lt. apart (entries_in es (choices_of es (get_or (range_with_len 0 (combinations es)) k d))))
+listed_apart (Scenarios bs) = branch_apart [] bs (no_items (λ (s : ScenarioData). AllPairs AreOfTwoPlaces s.entries))
 
 -- as many as are counted
 branch_long : (made : List ScenarioData) (bs : List Branch) → length (fold with_branch made bs) ≡ length made + length bs

@@ -1,5 +1,5 @@
 -- The scenarios without the entries of columns that leave the run: they make the same run, and their entries are its changes.
-use Rattle.std.proofs.Common.{arith, refl, sym, ap, ◌∙◌, ◌≡◌, ℕ, zero, suc, ◌+◌, ◌<◌, ◌≤◌, nat_lt, Bool, true, false, cond, not, List, [], ◌∷◌, map, length, get_or, Some, None, if◌then◌else◌}
+use Rattle.std.proofs.Common.{arith, refl, sym, ap, ◌∙◌, ◌≡◌, ℕ, zero, suc, ◌+◌, Bool, true, false, cond, not, List, [], ◌∷◌, map, length, get_or, Some, None, if◌then◌else◌}
 use Rattle.std.specs.List.{All, cons_option, filter_map}
 use Rattle.std.proofs.lemmas.List.{length-map}
 use Rattle.std.proofs.lemmas.List.Elements.{All-filter, All-map}
@@ -93,9 +93,3 @@ entries_counted sides (e ∷ es) = by_test (stays_in (live_of sides) e.place) re
 pub counted_live : (sides : List Side) (listed : List ScenarioData) → entry_count (map (live_scenario (live_of sides)) listed) ≡ changes_count sides listed
 counted_live sides [] = refl
 counted_live sides (s ∷ listed) = omega (arith, sum_by-cons (λ (x : ScenarioData). length x.entries) (live_scenario (live_of sides) s) (map (live_scenario (live_of sides)) listed), counted_live sides listed, entries_counted sides s.entries, sum_by-cons (λ (x : ScenarioData). change_count sides x.entries) s listed)
-
-pub not_more : (n limit : ℕ) → n ≤ limit → nat_lt limit n ≡ false
-not_more n limit h = grind (arith, h)
-
-pub more : (n limit : ℕ) → limit < n → nat_lt limit n ≡ true
-more n limit h = grind (arith, h)

@@ -5,6 +5,7 @@ use Rattle.std.proofs.lemmas.List.{length-map}
 use Rattle.std.proofs.lemmas.List.FromFn.{length-map-range_with_len}
 use Rattle.std.proofs.lemmas.List.Sums.{sum_by-cons}
 use Rattle.base_words.proofs.Booleans.{or_left, or_right_true}
+use Rattle.base_words.proofs.NumberTests.{test_from_less, test_from_not_less}
 use Rattle.boxed_problem.specs.BoxedFacts.{limits_size}
 use Rattle.boxed_problem.specs.declared.parts.Entry.{Entry}
 use Rattle.capped_num.specs.Capped.{capped}
@@ -47,7 +48,7 @@ use Rattle.smps_join.proofs.ColumnFacts.{nonleaf_le}
 use Rattle.smps_join.proofs.Counts.{count_cons}
 use Rattle.smps_join.proofs.FromStoch.{IsGood, each_entry}
 use Rattle.smps_join.proofs.Listed.{each_of_all, listed_long}
-use Rattle.smps_join.proofs.Living.{counted_live, more, not_more}
+use Rattle.smps_join.proofs.Living.{counted_live}
 use Rattle.smps_join.proofs.RunIs.{has_reach, program_is, total_is}
 
 -- the places of all entries are there
@@ -105,9 +106,6 @@ crowded n h = by_test (nat_lt 4096 n) refl h
     by_test : (t : Bool) → nat_lt 4096 n ≡ t → (n ≤ 4096 → ⊥) → t ≡ true
     by_test true e g = refl
     by_test false e g = absurd (g (grind arith))
-
-pub not_crowded : (n : ℕ) → n ≤ 4096 → nat_lt 4096 n ≡ false
-not_crowded n h = grind arith
 
 module _ (core : Core) (periods : Periods) (stoch : Stoch) (options : Options) where
   abbrev source : Source
@@ -179,10 +177,10 @@ module _ (core : Core) (periods : Periods) (stoch : Stoch) (options : Options) w
       ∙ ap (nat_lt 4194304) (counted_live (frame_of source).sides (scenarios_of stoch) ∙ changes_sum (parts_of core) (frame_of source) (scenarios_of stoch))
 
   pub many_changes : (frame : Frame) → frame ≡ frame_of source → 4194304 < entry_count (live_scenarios (live_of frame.sides) stoch) → has_many_changes source ≡ true
-  many_changes frame f h = sym (changes_many frame f) ∙ more (entry_count (live_scenarios (live_of frame.sides) stoch)) 4194304 h
+  many_changes frame f h = sym (changes_many frame f) ∙ test_from_less 4194304 (entry_count (live_scenarios (live_of frame.sides) stoch)) h
 
   pub few_changes : (frame : Frame) → frame ≡ frame_of source → entry_count (live_scenarios (live_of frame.sides) stoch) ≤ 4194304 → has_many_changes source ≡ false
-  few_changes frame f h = sym (changes_many frame f) ∙ not_more (entry_count (live_scenarios (live_of frame.sides) stoch)) 4194304 h
+  few_changes frame f h = sym (changes_many frame f) ∙ test_from_not_less 4194304 (entry_count (live_scenarios (live_of frame.sides) stoch)) h
 
   -- too many cells
   pub cells_many : (count columns rows nonleaf : ℕ) → count ≡ count_of stoch → columns ≡ length core.columns → rows ≡ length core.rows → nonleaf ≡ nonleaf_of source → has_many_cells count columns rows nonleaf ≡ has_many_cells (count_of stoch) (length core.columns) (length core.rows) (nonleaf_of source)

@@ -33,7 +33,7 @@ use Rattle.sp_model.specs.declared.program.Options.{Options}
 use Rattle.sp_model.specs.declared.program.Program.{Program}
 use Rattle.sp_model.specs.declared.program.Scenario.{Scenario}
 use Rattle.reach_core.specs.Within.{HasReach}
-use Rattle.smps_stoch.specs.StochFacts.{IsPlace}
+use Rattle.smps_stoch.specs.StochFacts.{AreOfTwoPlaces, IsPlace}
 use Rattle.join_words.specs.Boxes.{is_idle}
 use Rattle.join_words.specs.Framing.{frame_of}
 use Rattle.join_words.specs.Joining.{source_of}
@@ -47,7 +47,7 @@ use Rattle.smps_join.proofs.ColumnFacts.{columns_are, columns_rise, first_is, no
 use Rattle.smps_join.proofs.EntriesKept.{entries_ascend, entries_stay, entries_there, idle_cost, idle_from_reach}
 use Rattle.smps_join.proofs.FromStoch.{all_parents, all_periods, count_some, each_entry, each_weight}
 use Rattle.smps_join.proofs.FrameIs.{frame_facts, frame_sides}
-use Rattle.smps_join.proofs.Listed.{Differ, listed_all, listed_apart, listed_long, listed_weights}
+use Rattle.smps_join.proofs.Listed.{listed_all, listed_apart, listed_long, listed_weights}
 use Rattle.smps_join.proofs.ScenarioFacts.{Stays, change_is, change_stays, changes_differ, kept_all, kept_pairs, limits_are}
 use Rattle.smps_join.proofs.TreeShape.{tree_facts}
 
@@ -55,7 +55,7 @@ use Rattle.smps_join.proofs.TreeShape.{tree_facts}
 pub record IsListed (core : Core) (listed : List ScenarioData) : Type 0 where
   pub there : All (λ (s : ScenarioData). All (λ (e : StochEntry). IsPlace core e.place) s.entries) listed
   pub some : All (λ (s : ScenarioData). 1 ≤ s.weight) listed
-  pub apart : All (λ (s : ScenarioData). AllPairs Differ s.entries) listed
+  pub apart : All (λ (s : ScenarioData). AllPairs AreOfTwoPlaces s.entries) listed
 
 pub listed_is : (core : Core) (periods : Periods) (stoch : Stoch) (options : Options) → CanJoin core periods stoch options → IsListed core (scenarios_of stoch)
 listed_is core periods stoch options can = record {

@@ -1,12 +1,13 @@
 -- The scenarios of a run: their changes name what is there, no two are of one place, and those of columns with the single box 0 are left out.
 use Rattle.std.proofs.Common.{arith, refl, ◌≡◌, suc, nat_lt, Bool, true, false, List, [], ◌∷◌, length, ℤ, pos, ◌+ℤ◌, ◌-ℤ◌, unsigned_abs, Option, Some, None, if◌then◌else◌}
+use Rattle.std.proofs.lemmas.Bool.{and_from}
 use Rattle.std.specs.Prelude.{IfSome}
 use Rattle.std.specs.Int.{int_max, int_min}
 use Rattle.std.specs.List.{All, AllByRecursion, AllPairs, cons_option, filter_map}
 use Rattle.std.proofs.lemmas.Int.{clamps, ints}
 use Rattle.std.proofs.lemmas.List.Elements.{All-cons, recursion_from_All}
 use Rattle.std.proofs.lemmas.List.Kept.{AllPairs-cons}
-use Rattle.base_words.proofs.Comparisons.{both, test_from_most}
+use Rattle.base_words.proofs.Comparisons.{test_from_most}
 use Rattle.base_words.proofs.NumberTests.{test_from_less}
 use Rattle.boxed_problem.specs.declared.parts.Side.{Side}
 use Rattle.dec_core.specs.Scale.{scaled_to}
@@ -20,13 +21,12 @@ use Rattle.stoch_lines.specs.declared.places.StochPlace.TheVariants as place
 use Rattle.sp_model.specs.RunFacts.{are_limits, is_change, is_same_place}
 use Rattle.sp_model.specs.declared.program.Change.{Change}
 use Rattle.sp_model.specs.declared.program.Change.TheVariants.{Cost, Cell, Limits}
-use Rattle.smps_stoch.specs.StochFacts.{IsPlace}
+use Rattle.smps_stoch.specs.StochFacts.{AreOfTwoPlaces, IsPlace}
 use Rattle.join_words.specs.Boxes.{is_idle}
 use Rattle.join_words.specs.Limits.{lower_limit, upper_limit}
 use Rattle.join_words.specs.Parts.{Parts, parts_of, row_at}
 use Rattle.join_words.specs.RunOf.{change_at, change_of, lower_of, range_of, scaled_in, upper_of}
 use Rattle.join_words.specs.declared.frame.Frame.{Frame}
-use Rattle.smps_join.proofs.Listed.{Differ}
 
 module _ {X Y : Type 0} (f : X → Option Y) where
   -- what is kept of a list
@@ -78,8 +78,8 @@ change_is core frame e there = by_place e.place there
   where
     by_place : (p : StochPlace) → IsPlace core p → IfSome (change_at (parts_of core) frame p e.value) (λ c. is_change (length core.rows) (length core.columns) c ≡ true)
     by_place (place.Cost j) h = unless (is_idle frame.sides j) (Cost j (scaled_to e.value frame.cost_places)) (λ c. is_change (length core.rows) (length core.columns) c ≡ true) (λ live. test_from_less j (length core.columns) h)
-    by_place (place.Cell i j) h = unless (is_idle frame.sides j) (Cell i j (scaled_in frame i e.value)) (λ c. is_change (length core.rows) (length core.columns) c ≡ true) (λ live. both (nat_lt i (length core.rows)) (nat_lt j (length core.columns)) (test_from_less i (length core.rows) h.0) (test_from_less j (length core.columns) h.1))
-    by_place (place.Right i) h = both (nat_lt i (length core.rows)) (are_limits (lower_of (parts_of core) frame i e.value) (upper_of (parts_of core) frame i e.value)) (test_from_less i (length core.rows) h) (limits_are (row_at (parts_of core) i).kind (scaled_in frame i e.value) (range_of (parts_of core) frame i))
+    by_place (place.Cell i j) h = unless (is_idle frame.sides j) (Cell i j (scaled_in frame i e.value)) (λ c. is_change (length core.rows) (length core.columns) c ≡ true) (λ live. and_from (nat_lt i (length core.rows)) (nat_lt j (length core.columns)) (test_from_less i (length core.rows) h.0) (test_from_less j (length core.columns) h.1))
+    by_place (place.Right i) h = and_from (nat_lt i (length core.rows)) (are_limits (lower_of (parts_of core) frame i e.value) (upper_of (parts_of core) frame i e.value)) (test_from_less i (length core.rows) h) (limits_are (row_at (parts_of core) i).kind (scaled_in frame i e.value) (range_of (parts_of core) frame i))
 
 -- two changes of different places
 twice : (a b : Bool) (c d : Change) → is_same_place c d ≡ false → IfSome (if a then None else Some c) (λ x. IfSome (if b then None else Some d) (λ y. is_same_place x y ≡ false))
@@ -95,7 +95,7 @@ once_right : (b : Bool) (c d : Change) → is_same_place c d ≡ false → IfSom
 once_right true c d h = tt
 once_right false c d h = h
 
-pub changes_differ : (parts : Parts) (frame : Frame) (e f : StochEntry) → Differ e f → Related (change_of parts frame) (λ x y. is_same_place x y ≡ false) e f
+pub changes_differ : (parts : Parts) (frame : Frame) (e f : StochEntry) → AreOfTwoPlaces e f → Related (change_of parts frame) (λ x y. is_same_place x y ≡ false) e f
 changes_differ parts frame e f differ = by_places e.place f.place differ
   where
     by_places : (p q : StochPlace) → same_place p q ≡ false → IfSome (change_at parts frame p e.value) (λ x. IfSome (change_at parts frame q f.value) (λ y. is_same_place x y ≡ false))

@@ -1,5 +1,6 @@
 -- The tests of a place's last entry hold of all its entries, and each place of a realisation has one value.
 use Rattle.std.proofs.Common.{◌≡◌, refl, sym, ap, ◌∙◌, subst, ℕ, zero, suc, ◌+◌, ◌<◌, ◌≤◌, ◌==◌, Bool, true, false, not, ◌&&◌, List, [], ◌∷◌, ◌++◌, length, take, get_or, Option, Some, None, arith}
+use Rattle.std.proofs.lemmas.Bool.{and_from, and_left}
 use Rattle.std.specs.Prelude.{find, if◌then◌else◌, slice_get}
 use Rattle.std.specs.List.{All, AllPairs, Contains, list_any, position_or_len}
 use Rattle.std.specs.Option.{option_map, option_map_or}
@@ -10,7 +11,6 @@ use Rattle.std.proofs.lemmas.List.Elements.{All-head, All-tail}
 use Rattle.std.proofs.lemmas.List.Folds.{find_at, list_any_at, list_any_none}
 use Rattle.std.proofs.lemmas.List.Sums.{position_or_len_is}
 use Rattle.std.proofs.lemmas.Option.{slice_get-get_or}
-use Rattle.base_words.proofs.Comparisons.{both, left_fails}
 use Rattle.smps_words.specs.TextLines.{TextLine, no_line}
 use Rattle.smps_words.specs.declared.core_file.Core.{Core}
 use Rattle.smps_words.specs.declared.periods.Periods.{Periods}
@@ -34,15 +34,15 @@ module _ (entries : List Owned) (place : StochPlace) (test : Owned → Bool) whe
   Passes owned = same_place owned.entry.place place && test owned
 
   none_of_place : All (λ owned. same_place owned.entry.place place ≡ false) entries → list_any Passes entries ≡ false
-  none_of_place none = list_any_none Passes entries (λ k d lt. left_fails _ _ (none k d lt))
+  none_of_place none = list_any_none Passes entries (λ k d lt. and_left _ _ (none k d lt))
 
   last_passes : (last : Owned) → Contains entries last → same_place last.entry.place place ≡ true → test last ≡ true → list_any Passes entries ≡ true
   last_passes last (k, lt, at) same on =
-      list_any_at Passes entries k last lt (subst (λ (o : Owned). Passes o ≡ true) (sym at) (both _ _ same on))
+      list_any_at Passes entries k last lt (subst (λ (o : Owned). Passes o ≡ true) (sym at) (and_from _ _ same on))
 
   one_fails : (owned : Owned) (same : Bool) → same_place owned.entry.place place ≡ same → (same ≡ true → test owned ≡ false) → Passes owned ≡ false
   one_fails owned true is fails = ap (λ (x : Bool). x && test owned) is ∙ fails refl
-  one_fails owned false is fails = left_fails _ _ is
+  one_fails owned false is fails = and_left _ _ is
 
   all_fail : All (λ owned. same_place owned.entry.place place ≡ true → test owned ≡ false) entries → list_any Passes entries ≡ false
   all_fail fail = list_any_none Passes entries (λ k d lt. one_fails (get_or entries k d) (same_place (get_or entries k d).entry.place place) refl (λ same. fail k d lt same))

@@ -1,5 +1,6 @@
 -- One more line without a fault keeps what holds of the entries, and what holds as long as the file goes on.
 use Rattle.std.proofs.Common.{◌≡◌, refl, sym, ap, ◌∙◌, subst, ℕ, ◌+◌, ◌-◌, ◌<◌, ◌==◌, Bool, true, false, not, List, [], ◌∷◌, ◌++◌, length, map, get_or, Option, Some, None, arith, length-append}
+use Rattle.std.proofs.lemmas.Bool.{or_parts}
 use Rattle.std.specs.Prelude.{◌||◌, ◌&&◌, if◌then◌else◌, nat_lt, slice_get, slice_index_or, unwrap_or, codes}
 use Rattle.std.specs.List.{All, list_any}
 use Rattle.std.specs.Option.{option_map_or}
@@ -7,7 +8,6 @@ use Rattle.std.proofs.lemmas.List.{append-nil, get_or_at}
 use Rattle.std.proofs.lemmas.List.Elements.{All-nil, All-cons}
 use Rattle.std.proofs.lemmas.Option.{unwrap_or-slice_get}
 use Rattle.base_words.proofs.Comparisons.{not_not}
-use Rattle.base_words.proofs.Booleans.{neither}
 use Rattle.smps_words.specs.Tables.{first_true, ◌or◌}
 use Rattle.smps_words.specs.TextLines.{TextLine, field, field_count, is_header, is_end}
 use Rattle.smps_words.specs.declared.core_file.Core.{Core}
@@ -106,7 +106,7 @@ module _ (core : Core) (periods : Periods) (b : Before) (line : TextLine) where
       let earliest = slice_index_or b.periods element 0 in
       let twice = is_twice_in_block b places in
       let parts = or_none (pairs_fault core line) (places_rules periods earliest twice places) none in
-      let tests = neither (list_any (is_taken b.entries element) places) (is_repeated b.entries choice places) (not_twice earliest twice places parts.1) in
+      let tests = or_parts (list_any (is_taken b.entries element) places) (is_repeated b.entries choice places) (not_twice earliest twice places parts.1) in
       let rest = repeated_not b.entries facts.apart choice (λ k d lt. omega (arith, facts.there k d lt, no_scenarios)) (entries_at core line) tests.1 in
       let new : AreNew b.entries element choice (entries_at core line) = record {
         kept = kept_all b.entries facts.apart element (entries_at core line) tests.0;

@@ -16,5 +16,4 @@ mod PlacesOnce
 mod SaidLaws
 mod Saying
 mod StochLaws
-mod ToldAt
 mod Weighing

@@ -3,6 +3,7 @@ use Rattle.std.proofs.Common.{◌≡◌, refl, ap, ℕ, ◌+◌, ◌-◌, ◌<�
 use Rattle.std.specs.Prelude.{if◌then◌else◌, ◌&&◌, Option, Some, None}
 use Rattle.std.specs.List.{Contains}
 use Rattle.std.proofs.lemmas.List.{append-nil}
+use Rattle.base_words.proofs.Positions.{none_in}
 use Rattle.smps_words.specs.TextLines.{TextLine, field}
 use Rattle.smps_words.specs.declared.core_file.Core.{Core}
 use Rattle.smps_words.specs.declared.periods.Periods.{Periods}
@@ -21,9 +22,6 @@ use Rattle.stoch_lines.specs.declared.state.Saying.{Saying}
 use Rattle.stoch_lines.specs.declared.state.ScenarioHead.{ScenarioHead}
 use Rattle.smps_stoch.specs.LawWords.{entries_said}
 use Rattle.smps_stoch.specs.SaidFacts.{IsSection}
-
-nothing_in : {X : Type 0} (x : X) → Contains [] x → ⊥
-nothing_in x (k, lt, at) = omega (arith, lt)
 
 -- the element of a line's entries, and their realisation or scenario
 abbrev element_in : Option Heading → List Source → List Chosen → StochEntry → ℕ
@@ -59,7 +57,7 @@ module _ (core : Core) (b : Before) (line : TextLine) where
 
 -- where the line has no fault, that is the last one that has begun up to it
 module _ (core : Core) (periods : Periods) (b : Before) (line : TextLine) (entry : StochEntry) (said : List Saying) (each : length b.realisations ≡ length said) (named : length b.scenarios ≡ length b.names) (some : b.begun ≡ true → 0 < length b.realisations + length b.scenarios) where
-  abbrev pub last_begun : Option Heading → Bool → ℕ
+  abbrev last_begun : Option Heading → Bool → ℕ
   last_begun section header =
       if is_scenarios section then length (b.names ++ (if not header && (is_scenarios section && begins_scenario line) then field 1 line ∷ [] else []))
       else length (said ++ (if header then [] else saying_in core periods section b.blocks line))
@@ -71,21 +69,21 @@ module _ (core : Core) (periods : Periods) (b : Before) (line : TextLine) (entry
   none_named = ap (λ (xs : List (List ℕ)). length xs) (append-nil b.names)
 
   in_blocks : (begins begun : Bool) → b.begun ≡ begun → length b.scenarios ≡ 0 → (if begins then block_fault periods b line else (if not begun then Some Section else block_data_fault core periods b line)) ≡ None → Contains (if begins then [] else entries_at core line) entry → length b.realisations - 1 + 1 ≡ length (said ++ (if begins then block_saying periods b.blocks line ∷ [] else []))
-  in_blocks true begun is empty none has = absurd (nothing_in entry has)
+  in_blocks true begun is empty none has = absurd (none_in entry has)
   in_blocks false true is empty none has = omega (arith, some is, empty, each, none_said)
   in_blocks false false is empty none has = absurd (cc none)
 
   in_scenarios : (begins begun : Bool) → b.begun ≡ begun → length b.realisations ≡ 0 → (if begins then scenario_fault periods b line else (if not begun then Some Section else scenario_data_fault core periods b line)) ≡ None → Contains (if begins then [] else entries_at core line) entry → length b.scenarios - 1 + 1 ≡ length (b.names ++ (if begins then field 1 line ∷ [] else []))
-  in_scenarios true begun is empty none has = absurd (nothing_in entry has)
+  in_scenarios true begun is empty none has = absurd (none_in entry has)
   in_scenarios false true is empty none has = omega (arith, some is, empty, named, none_named)
   in_scenarios false false is empty none has = absurd (cc none)
 
   in_section : (section : Option Heading) → IsSection section (length b.realisations) (length b.scenarios) → data_fault core periods section b line ≡ None → Contains (entries_said core section line) entry → choice_in section b.realisations b.scenarios + 1 ≡ last_begun section false
-  in_section None is none has = absurd (nothing_in entry has)
+  in_section None is none has = absurd (none_in entry has)
   in_section (Some Indep) is none has = omega (arith, each, length-append said (indep_saying core periods line ∷ []))
   in_section (Some Blocks) is none has = in_blocks (begins_block line) b.begun refl is none has
   in_section (Some Scenarios) is none has = in_scenarios (begins_scenario line) b.begun refl is none has
 
   pub last_one : (section : Option Heading) (header : Bool) → IsSection section (length b.realisations) (length b.scenarios) → (if header then header_fault b line else data_fault core periods section b line) ≡ None → Contains (if header then [] else entries_said core section line) entry → choice_in section b.realisations b.scenarios + 1 ≡ last_begun section header
-  last_one section true is none has = absurd (nothing_in entry has)
+  last_one section true is none has = absurd (none_in entry has)
   last_one section false is none has = in_section section is none has

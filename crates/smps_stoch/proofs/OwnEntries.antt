@@ -4,6 +4,7 @@ use Rattle.std.specs.Prelude.{filter, if◌then◌else◌, ◌↔◌}
 use Rattle.std.specs.List.{Contains}
 use Rattle.std.proofs.lemmas.List.{get_or-map, length-map, take_more}
 use Rattle.std.proofs.lemmas.List.Elements.{All-contains_itself, All-filter, filter_passes}
+use Rattle.base_words.proofs.Positions.{contains_map}
 use Rattle.smps_words.proofs.ToldLaws.{told_push}
 use Rattle.smps_words.specs.TextLines.{TextLine, no_line}
 use Rattle.smps_words.specs.declared.core_file.Core.{Core}
@@ -18,7 +19,7 @@ use Rattle.smps_stoch.specs.StochData.{entries_at}
 use Rattle.smps_stoch.proofs.AnyEntry.{facts_to}
 use Rattle.smps_stoch.proofs.ByElement.{by_element}
 use Rattle.smps_stoch.proofs.LineEntries.{choice_in, last_one, owned_is, owner}
-use Rattle.smps_stoch.proofs.ToldAt.{at_told, told_at}
+use Rattle.smps_words.proofs.ToldAt.{at_told, told_at}
 
 module _ {X Y : Type 0} (p : X → Bool) (f : X → Y) where
   one_more : (b : Bool) (x : X) (xs : List X) (y : Y) → Contains (map f xs) y → Contains (map f (cond b (x ∷ xs) xs)) y
@@ -55,9 +56,6 @@ module _ (entries : List Owned) (k : ℕ) (entry : StochEntry) where
       subst (Contains (entries_at entries k)) (ap (λ (o : Owned). o.entry) at ∙ is) (kept IsOwn (λ (o : Owned). o.entry) entries i owned lt pass)
 
 module _ {X Y : Type 0} (f : X → Y) (xs : List X) where
-  map_has : (x : X) → Contains xs x → Contains (map f xs) (f x)
-  map_has x (k, lt, at) = (k, subst (λ (n : ℕ). k < n) (sym (length-map xs f)) lt, get_or-map f xs k x (f x) lt ∙ ap f at)
-
   has_map : (y : Y) (d : X) → Contains (map f xs) y → (x : X) × Contains xs x × (f x ≡ y)
   has_map y d (k, lt, at) =
       let within : k < length xs = subst (λ (n : ℕ). k < n) (length-map xs f) lt in
@@ -110,7 +108,7 @@ module _ (core : Core) (periods : Periods) (lines : List TextLine) where
     (λ line.
         let n = line.0 in
         let owned = Owner n entry in
-        let there : Contains (Tells (take n lines) (line_at lines n)) owned = subst (λ (xs : List Owned). Contains xs owned) (sym (owned_at n)) (map_has (Owner n) (entries_on core lines n) entry line.2) in
+        let there : Contains (Tells (take n lines) (line_at lines n)) owned = subst (λ (xs : List Owned). Contains xs owned) (sym (owned_at n)) (contains_map (Owner n) (entries_on core lines n) entry line.2) in
         let last = up_to n entry clean line.1 line.2 in
         let same : Choice n ≡ k = omega (arith, last, line.3) in
         has (entries_of core periods lines) k entry (owned, at_told Tells no_line owned [] lines n line.1 there, same, refl)),

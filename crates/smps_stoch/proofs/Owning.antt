@@ -1,12 +1,12 @@
 -- More entries, realisations or scenarios keep what holds of the entries.
-use Rattle.std.proofs.Common.{◌≡◌, refl, sym, ap, ◌∙◌, subst, ℕ, ◌+◌, ◌<◌, ◌≤◌, Bool, true, false, ◌||◌, List, [], ◌∷◌, ◌++◌, length, map, get_or, arith, length-append}
+use Rattle.std.proofs.Common.{◌≡◌, refl, sym, ap, ◌∙◌, subst, ℕ, ◌+◌, ◌<◌, ◌≤◌, true, false, ◌||◌, List, [], ◌∷◌, ◌++◌, length, map, get_or, arith, length-append}
+use Rattle.std.proofs.lemmas.Bool.{or_parts}
 use Rattle.std.specs.List.{All, AllPairs, list_any}
 use Rattle.std.proofs.lemmas.List.{append-nil, append_assoc, get_or_append_left}
 use Rattle.std.proofs.lemmas.List.Elements.{All-nil, All-cons, All-head, All-tail, All-push}
 use Rattle.std.proofs.lemmas.List.Kept.{AllPairs-cons}
 use Rattle.std.proofs.lemmas.List.Quantifiers.{all_pairs_push}
 use Rattle.base_words.proofs.Pairs.{pairs_head, pairs_tail}
-use Rattle.base_words.proofs.Booleans.{neither}
 use Rattle.smps_words.specs.declared.core_file.Core.{Core}
 use Rattle.stoch_lines.specs.Faults.{is_given, is_repeated, is_taken}
 use Rattle.stoch_lines.specs.Places.{same_place}
@@ -21,12 +21,6 @@ use Rattle.smps_stoch.specs.StochData.{no_choice}
 use Rattle.smps_stoch.specs.StochFacts.{AreOfTwoPlaces, IsEntry}
 use Rattle.smps_stoch.proofs.LastEntries.{before, kept, IsBefore, IsKept}
 
-none_of : {X : Type 0} (p : X → Bool) (xs : List X) → list_any p xs ≡ false → All (λ x. p x ≡ false) xs
-none_of p [] e = All-nil (λ x. p x ≡ false)
-none_of p (x ∷ xs) e =
-    let parts = neither (p x) (list_any p xs) e in
-    All-cons (λ x. p x ≡ false) x xs parts.0 (none_of p xs parts.1)
-
 -- new entries of an element's realisation: each place has entries of this element and of earlier realisations alone, and none stands twice
 pub record AreNew (entries : List Owned) (element choice : ℕ) (news : List StochEntry) : Type 0 where
   pub kept : All (λ entry. All (IsKept entry.place element) entries) news
@@ -38,21 +32,21 @@ module _ (entries : List Owned) (pairs : AllPairs Follows entries) where
   pub kept_all : (element : ℕ) (news : List StochEntry) → list_any (is_taken entries element) (map (λ e. e.place) news) ≡ false → All (λ entry. All (IsKept entry.place element) entries) news
   kept_all element [] test = All-nil (λ (entry : StochEntry). All (IsKept entry.place element) entries)
   kept_all element (entry ∷ news) test =
-      let parts = neither (is_taken entries element entry.place) (list_any (is_taken entries element) (map (λ e. e.place) news)) test in
+      let parts = or_parts (is_taken entries element entry.place) (list_any (is_taken entries element) (map (λ e. e.place) news)) test in
       All-cons (λ (entry : StochEntry). All (IsKept entry.place element) entries) entry news (kept entry.place element entries pairs parts.0) (kept_all element news parts.1)
 
   others : (place : StochPlace) (news : List StochEntry) → list_any (same_place place) (map (λ e. e.place) news) ≡ false → All (λ e. same_place place e.place ≡ false) news
   others place [] test = All-nil (λ (e : StochEntry). same_place place e.place ≡ false)
   others place (entry ∷ news) test =
-      let parts = neither (same_place place entry.place) (list_any (same_place place) (map (λ e. e.place) news)) test in
+      let parts = or_parts (same_place place entry.place) (list_any (same_place place) (map (λ e. e.place) news)) test in
       All-cons (λ (e : StochEntry). same_place place e.place ≡ false) entry news parts.0 (others place news parts.1)
 
   pub repeated_not : (choice : ℕ) → All (λ owned. owned.choice ≤ choice) entries → (news : List StochEntry) → is_repeated entries choice (map (λ e. e.place) news) ≡ false → All (λ entry. All (IsBefore entry.place choice) entries) news × AllPairs AreOfTwoPlaces news
   repeated_not choice most [] test = (All-nil (λ (entry : StochEntry). All (IsBefore entry.place choice) entries), λ i j d less lt. absurd (omega (arith, lt)))
   repeated_not choice most (entry ∷ news) test =
       let places = map (λ (e : StochEntry). e.place) news in
-      let parts = neither (is_given entries choice entry.place) (list_any (same_place entry.place) places || is_repeated entries choice places) test in
-      let rest = neither (list_any (same_place entry.place) places) (is_repeated entries choice places) parts.1 in
+      let parts = or_parts (is_given entries choice entry.place) (list_any (same_place entry.place) places || is_repeated entries choice places) test in
+      let rest = or_parts (list_any (same_place entry.place) places) (is_repeated entries choice places) parts.1 in
       let later = repeated_not choice most news rest.1 in (
         All-cons (λ (entry : StochEntry). All (IsBefore entry.place choice) entries) entry news (before entry.place choice entries pairs most parts.0) later.0,
         AllPairs-cons AreOfTwoPlaces entry news (others entry.place news rest.0) later.1,

@@ -4,6 +4,7 @@ use Rattle.std.specs.Prelude.{fold, if◌then◌else◌, position}
 use Rattle.std.specs.List.{list_any, position_or_len}
 use Rattle.std.proofs.lemmas.List.{append-nil, get_or_append_left, get_or_at, get_or_past}
 use Rattle.std.proofs.lemmas.List.Elements.{All-nil, All-push}
+use Rattle.base_words.proofs.Positions.{any_some}
 use Rattle.line_core.specs.SplitLines.{lines_of}
 use Rattle.line_core.specs.declared.line_list.Line.{Line}
 use Rattle.line_core.specs.declared.line_list.LineFault.{LineFault}
@@ -14,7 +15,7 @@ use Rattle.smps_words.specs.TextLines.{TextLine, last_number, text_lines, is_end
 use Rattle.smps_words.specs.declared.core_file.Core.{Core}
 use Rattle.smps_words.specs.declared.periods.Periods.{Periods}
 use Rattle.stoch_lines.proofs.Adding.{stepped_is}
-use Rattle.stoch_lines.proofs.Positions.{any_some, position_none}
+use Rattle.stoch_lines.proofs.Positions.{position_none}
 use Rattle.stoch_lines.specs.Before.{Before, next, nothing_said}
 use Rattle.stoch_lines.specs.Faults.{line_fault, max_scenarios, own_period}
 use Rattle.stoch_lines.specs.Places.{same_source}

@@ -1,6 +1,7 @@
 -- The facts that the type `Core` keeps, over its plain fields.
 use Rattle.std.specs.Prelude.{◌≡◌, ℕ, ◌+◌, ◌^◌, ◌<◌, ◌≤◌, Bool, false, List, length, slice_index_or, unwrap_or, Option, Some, None, ℤ, pos, unsigned_abs, int_lt}
 use Rattle.std.specs.List.{All}
+use Rattle.base_words.specs.Signs.{limit_size}
 use Rattle.dec_core.specs.declared.decimal.Decimal.{Decimal}
 use Rattle.smps_words.specs.declared.core_data.CoreRow.{CoreRow}
 use Rattle.smps_words.specs.declared.core_data.CoreColumn.{CoreColumn}
@@ -24,11 +25,6 @@ IsShort d = (d.places ≤ 9) × (unsigned_abs d.mantissa ≤ 10 ^ 36)
 -- the number 0
 abbrev pub zero_decimal : Decimal
 zero_decimal = record { mantissa = pos 0; places = 0 }
-
--- the magnitude of a box's end, 0 where the side is open
-abbrev pub end_size : Option ℤ → ℕ
-end_size None = 0
-end_size (Some e) = unsigned_abs e
 
 -- whether no whole number lies between the ends of a box
 abbrev pub is_empty_box : Option ℤ → Option ℤ → Bool
@@ -67,6 +63,6 @@ pub record CoreFacts (rows : List CoreRow) (columns : List CoreColumn) (entries 
   pub values : All (λ e. IsShort e.value) entries
   pub constant_short : IsShort constant
   -- each box has small ends, and isn't empty where both of them are there
-  pub lowers : All (λ c. end_size c.lower ≤ max_end) columns
-  pub uppers : All (λ c. end_size c.upper ≤ max_end) columns
+  pub lowers : All (λ c. limit_size c.lower ≤ max_end) columns
+  pub uppers : All (λ c. limit_size c.upper ≤ max_end) columns
   pub filled : All (λ c. is_empty_box c.lower c.upper ≡ false) columns

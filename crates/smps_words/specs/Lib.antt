@@ -10,4 +10,3 @@ pub mod TextLines
 pub use Rattle.dec_core.specs.DecimalValue
 pub use Rattle.line_core.specs.Fields
 pub use Rattle.line_core.specs.SplitLines
-pub use Rattle.line_core.specs.Names

@@ -13,7 +13,7 @@ use Rattle.sp_model.specs.RunFacts.{are_limits, is_change}
 use Rattle.sp_model.specs.declared.program.Change.{Change}
 use Rattle.sp_model.specs.declared.program.Change.TheVariants.{Cost, Cell, Limits}
 
-pub costs_part : (d : Data) (cs : List Change) → (fold with_change d cs).costs ≡ fold with_cost d.costs cs
+costs_part : (d : Data) (cs : List Change) → (fold with_change d cs).costs ≡ fold with_cost d.costs cs
 costs_part d [] = refl
 costs_part d (Cost column value ∷ cs) = costs_part (with_change d (Cost column value)) cs
 costs_part d (Cell row column value ∷ cs) = costs_part (with_change d (Cell row column value)) cs

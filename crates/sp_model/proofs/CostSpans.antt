@@ -5,7 +5,7 @@ use Rattle.std.proofs.lemmas.Int.{unsigned_abs-mul}
 use Rattle.std.proofs.lemmas.List.{length-map}
 use Rattle.std.proofs.Math.Nat.{mul-add, mul-le-mul, mul_assoc}
 use Rattle.base_words.specs.Sums.{number_at, size_below}
-use Rattle.base_words.proofs.SumBounds.{size_below-mono}
+use Rattle.base_words.proofs.SumBounds.{size_below-mono, size_below-times}
 use Rattle.boxed_problem.specs.BoxedFacts.{column_size, value_size}
 use Rattle.sp_model.specs.Changes.{side_of, sides}
 use Rattle.sp_model.specs.Problems.{data_at, factor_of, problem_in, scenarios}
@@ -13,7 +13,7 @@ use Rattle.sp_model.specs.Reaching.{box_reach, cost_reach}
 use Rattle.sp_model.specs.declared.program.Program.{Program}
 use Rattle.sp_model.specs.declared.run.Run.{Run}
 use Rattle.sp_model.proofs.ProgramReach.{scenario_cost_le}
-use Rattle.sp_model.proofs.Sizes.{size_below-times, times_at, zeros_at}
+use Rattle.sp_model.proofs.Sizes.{times_at, zeros_at}
 
 -- the cost of a column in a scenario
 cost_le : (run : Run) (s j : ℕ) → s < scenarios run → unsigned_abs (number_at (data_at run s).costs j) ≤ cost_reach run.program j

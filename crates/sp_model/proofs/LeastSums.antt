@@ -12,7 +12,7 @@ use Rattle.base_words.specs.ListSums.{sum_z}
 use Rattle.base_words.specs.Sums.{size_below}
 use Rattle.base_words.proofs.ListSums.{sum_z-cons}
 use Rattle.base_words.proofs.Magnitudes.{abs-add}
-use Rattle.base_words.proofs.SumBounds.{size_below-le, size_below-mono}
+use Rattle.base_words.proofs.SumBounds.{size_below-le, size_below-mono, size_below-times}
 use Rattle.sp_model.specs.Problems.{factor_of, least_of, no_scenario, problem_in, scenario_at, scenarios, sum_some}
 use Rattle.sp_model.specs.declared.program.Scenario.{Scenario}
 use Rattle.sp_model.specs.declared.run.Run.{Run}
@@ -20,7 +20,6 @@ use Rattle.sp_model.proofs.Bounds.{reach_parts}
 use Rattle.sp_model.proofs.CostSpans.{cost_span, plain_span}
 use Rattle.sp_model.proofs.LeastValues.{least_abs}
 use Rattle.sp_model.proofs.ScenarioPoints.{run_filled}
-use Rattle.sp_model.proofs.Sizes.{size_below-times}
 use Rattle.base_words.proofs.FirstAnswers.{same_some}
 
 -- the size of the weight of scenario s

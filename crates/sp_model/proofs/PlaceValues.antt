@@ -1,11 +1,12 @@
 -- A change gives its place a value, and no change of another place takes it away.
 
 use Rattle.std.proofs.Common.{arith, refl, sym, ap, subst, ◌∙◌, ◌≡◌, ℕ, zero, suc, ◌<◌, ◌==◌, nat_lt, Bool, true, false, ◌&&◌, List, [], ◌∷◌, length, get_or, set, if◌then◌else◌, pos}
+use Rattle.std.proofs.lemmas.Bool.{and_from, and_left, and_right}
 use Rattle.std.specs.Prelude.{find, option_map, unwrap_or, Some}
 use Rattle.std.specs.List.{All, AllByRecursion, AllPairs, fold}
 use Rattle.std.proofs.lemmas.List.{length-map}
 use Rattle.std.proofs.lemmas.List.Elements.{recursion_from_All}
-use Rattle.base_words.proofs.Comparisons.{both, both_left, left_fails, right_fails}
+use Rattle.base_words.proofs.Comparisons.{both_left}
 use Rattle.base_words.proofs.NumberTests.{test_from_same}
 use Rattle.boxed_problem.specs.BoxedFacts.{no_limits}
 use Rattle.boxed_problem.specs.declared.parts.Entry.{Entry}
@@ -49,7 +50,7 @@ before_other e f h = by_column (f.column == e.column) refl h
     by_column false c g = refl
 
 own_cell : (e : Entry) → is_cell e.row e.column e ≡ true
-own_cell e = both (e.column == e.column) (e.row == e.row) (test_from_same e.column e.column refl) (test_from_same e.row e.row refl)
+own_cell e = and_from (e.column == e.column) (e.row == e.row) (test_from_same e.column e.column refl) (test_from_same e.row e.row refl)
 
 -- an entry of the place of another is of a cell exactly where the other is
 at_cell : (i j : ℕ) (e f : Entry) → is_at f e ≡ true → is_cell i j e ≡ false → is_cell i j f ≡ false
@@ -85,8 +86,8 @@ turned_tests a b c d h = by_tests (a == b) refl (c == d) refl h
   where
     by_tests : (t : Bool) → (a == b) ≡ t → (u : Bool) → (c == d) ≡ u → (t && u) ≡ false → ((d == c) && (b == a)) ≡ false
     by_tests true p true q g = absurd (let x = g in cc)
-    by_tests true p false q g = let e : (d == c) ≡ false = grind arith in left_fails (d == c) (b == a) e
-    by_tests false p u q g = let e : (b == a) ≡ false = grind arith in right_fails (d == c) (b == a) e
+    by_tests true p false q g = let e : (d == c) ≡ false = grind arith in and_left (d == c) (b == a) e
+    by_tests false p u q g = let e : (b == a) ≡ false = grind arith in and_right (d == c) (b == a) e
 
 -- a change gives its place its value
 own_given : (d : Data) (c : Change) → is_change (length d.limits) (length d.costs) c ≡ true → Has (with_change d c) c

@@ -1,11 +1,10 @@
 -- Greatest numbers and sums of natural numbers, item by item.
 
-use Rattle.std.proofs.Common.{arith, refl, sym, ap, ◌∙◌, ◌≡◌, ℕ, zero, suc, ◌+◌, ◌*◌, ◌<◌, ◌≤◌, max, List, [], ◌∷◌, map, length, get_or, ℤ, pos, ◌*ℤ◌}
+use Rattle.std.proofs.Common.{arith, refl, sym, ◌≡◌, ℕ, zero, suc, ◌*◌, ◌<◌, ◌≤◌, max, List, [], ◌∷◌, map, length, get_or, ℤ, pos, ◌*ℤ◌}
 use Rattle.std.specs.List.{fold}
 use Rattle.std.proofs.lemmas.List.{get_or-map, length-map}
-use Rattle.std.proofs.Math.Nat.{mul-add}
 use Rattle.std.proofs.Math.IntN.{*ℤ-zero}
-use Rattle.base_words.specs.Sums.{number_at, size_below}
+use Rattle.base_words.specs.Sums.{number_at}
 use Rattle.sp_model.specs.Reaching.{greatest}
 
 start_le : (ns : List ℕ) (a : ℕ) → a ≤ fold max a ns
@@ -20,10 +19,6 @@ item_le (n ∷ ns) a (suc i) h = item_le ns (max a n) i (omega arith)
 -- no image is above the greatest
 pub greatest_le : {X : Type 0} (f : X → ℕ) (xs : List X) (i : ℕ) (d : X) → i < length xs → f (get_or xs i d) ≤ greatest (map f xs)
 greatest_le f xs i d h = omega (arith, get_or-map f xs i d 0 h, item_le (map f xs) 0 i (omega (arith, length-map xs f)))
-
-pub size_below-times : (n c : ℕ) (f : ℕ → ℕ) → size_below n (λ k. c * f k) ≡ c * size_below n f
-size_below-times zero c f = omega arith
-size_below-times (suc n) c f = ap (λ m. m + c * f n) (size_below-times n c f) ∙ sym (mul-add c (size_below n f) (f n))
 
 -- each number of a list times a factor
 pub times_at : (a : ℤ) (xs : List ℤ) (j : ℕ) → number_at (map (λ x. a *ℤ x) xs) j ≡ a *ℤ number_at xs j

@@ -20,6 +20,7 @@ pub use limits::{
     MAX_MISSING, MAX_NONLEAF_CELLS, MAX_PLACES, MAX_RANKS, MAX_RHO, MAX_ROWS, MAX_SCALE,
     MAX_SCENARIOS, MAX_SPOKES, MAX_STAGES, MIN_STAGES,
 };
+pub use making::{factor, weight};
 pub use placing::is_before;
 pub use plan::{Multipliers, Plan};
 pub use program::{Change, Column, Options, Program, Row, Scenario};

@@ -4,14 +4,14 @@ ghost use Rattle.std.specs.List.{All};
 ghost use Rattle.boxed_problem.specs.Data.{problem_of};
 ghost use Rattle.sp_model.specs.Changes.{side_of};
 ghost use Rattle.sp_model.specs.Drafts.{data_in};
-ghost use Rattle.sp_model.specs.Problems.{data_at, factor_of, problem_in, scenarios};
+ghost use Rattle.sp_model.specs.Problems.{data_at, factor_of, problem_in, scenario_at, scenarios};
 
 use crate::drafting::{Draft, drafted};
 use crate::program::Column;
 use crate::run::Run;
 use boxed_problem::{Boxed, Side};
 use std::alloc::{AllocError, Global};
-use wide_num::List;
+use wide_num::{List, times};
 
 // The boxes of the columns.
 fn sides(alloc: Global, columns: &List<Column>) -> Result<List<Side>, AllocError>
@@ -25,14 +25,6 @@ fn sides(alloc: Global, columns: &List<Column>) -> Result<List<Side>, AllocError
         })?;
     }
     Ok(sides)
-}
-
-// A product that fits.
-fn times(a: i128, b: i128) -> i128
-    requires { FitsSigned w128 (a *ℤ b) }
-    ensures { result ≡ a *ℤ b }
-{
-    a * b
 }
 
 // The costs, each times the factor.
@@ -58,8 +50,16 @@ fn square(alloc: Global, costs: &[i128]) -> Result<List<i128>, AllocError>
     Ok(square)
 }
 
-// By what the costs of a scenario are multiplied.
-fn factor(run: &Run, s: u32) -> i128
+/// The weight of a scenario.
+pub fn weight(run: &Run, s: u32) -> i128
+    requires { s < scenarios run.now }
+    ensures { result ≡ (scenario_at run.now s).weight }
+{
+    run.program.scenarios.as_slice()[s as usize].weight
+}
+
+/// By what the costs of a scenario are multiplied: the scale times its weight.
+pub fn factor(run: &Run, s: u32) -> i128
     requires { s < scenarios run.now }
     ensures { result ≡ factor_of run.now s }
 {

@@ -4,6 +4,8 @@ use Rattle.std.proofs.Props.{props}
 use Rattle.std.proofs.lemmas.List.Sorted.{Contains-permutation, IsPermutation-sym}
 use Rattle.std.specs.List.{Contains}
 use Rattle.std.specs.List.Sorted.{IsPermutation}
+use Rattle.base_words.proofs.Positions.{none_in}
+use Rattle.smps_words.proofs.EntryOrder.{before_before}
 use Rattle.core_lines.specs.Parts.{Before}
 use Rattle.dec_core.specs.declared.decimal.Decimal.{Decimal}
 use Rattle.smps_core.specs.CoreData.{Ascend, IsCoreOf, entries_of}
@@ -24,9 +26,6 @@ IsBelow e es = (f : CoreEntry) → Contains es f → ComesBefore e f
 IsChain : List CoreEntry → Type 0
 IsChain [] = Unit {0}
 IsChain (e ∷ es) = IsBelow e es × IsChain es
-
-before_before : (e f g : CoreEntry) → ComesBefore e f → ComesBefore f g → ComesBefore e g
-before_before e f g (a, b) (c, d) = (omega (arith, a, c), λ same. let low : e.column ≡ f.column = omega (arith, a, c, same) in let high : f.column ≡ g.column = omega (arith, same, low) in let x = b low in let y = d high in omega (arith, x, y))
 
 never_itself : (e : CoreEntry) → ComesBefore e e → ⊥
 never_itself e (a, b) = let x = b refl in omega (arith, x)
@@ -69,9 +68,6 @@ chain_from (e ∷ es) a = (head_below e es a, chain_from es (tail_ascends e es a
 -- two lists have the same entries
 abbrev Alike : List CoreEntry → List CoreEntry → Type 0
 Alike es fs = ((g : CoreEntry) → Contains es g → Contains fs g) × ((g : CoreEntry) → Contains fs g → Contains es g)
-
-none_in : (e : CoreEntry) → Contains [] e → ⊥
-none_in e (k, h, is) = omega (arith, h)
 
 same_heads : (e f : CoreEntry) (es fs : List CoreEntry) → IsChain (e ∷ es) → IsChain (f ∷ fs) → Alike (e ∷ es) (f ∷ fs) → e ≡ f
 unfolding IsChain

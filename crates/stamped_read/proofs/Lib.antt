@@ -1,2 +1,2 @@
-mod Standing
+pub mod Standing
 mod Freshness

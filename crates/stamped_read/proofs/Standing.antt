@@ -3,6 +3,7 @@ use Rattle.std.proofs.Common.{◌≡◌, ℕ, zero, suc, ◌+◌, ◌*◌, ◌/�
 use Rattle.std.specs.Prelude.{Option, Some, None}
 use Rattle.std.proofs.lemmas.Bool.Decides.{nat_tests}
 use Rattle.base_words.proofs.NumberTests.{not_less_from_test}
+use Rattle.std.proofs.lemmas.Bool.{eqb-true}
 use borrow.Author.Count.{below_more}
 use Rattle.wide_num.specs.RoomContents.{Contents, with_room, room_of}
 use Rattle.window_words.specs.Views.{gained, longer}
@@ -26,12 +27,8 @@ room_set (p ∷ ps) (suc at) zero c e = refl
 room_set (p ∷ ps) (suc at) (suc i) c e = room_set ps at i c e
 
 -- where a reading begins at a stamp and isn't that of the first window, the stamp is the first's
-fit_stamp : (s : Reader) (n : ℕ) → None ≡ unfit s n → 0 < s.rank → n ≡ s.first
+pub fit_stamp : (s : Reader) (n : ℕ) → None ≡ unfit s n → 0 < s.rank → n ≡ s.first
 fit_stamp s n e l = grind (arith, nat_tests)
-
--- what tests tell
-equal : (a b : ℕ) → nat_eq a b ≡ true → a ≡ b
-equal a b e = grind (arith, nat_tests)
 
 pub some_left : (b : Bool) (n : ℕ) → (n ≡ 0 → b ≡ true) → b ≡ false → 0 < n
 some_left b zero h e = let t = h refl in absurd (cc)
@@ -71,7 +68,7 @@ module _ (entry : ℕ → ℕ → List ℕ) (wide : ℕ → ℕ) (count most : �
       (last.0, below_more (λ (i : ℕ). words_of s i ≡ entry (s.window + i) (s.first / 2)) s.rank h.parts last.1)
 
   end_stands : (v' : View) → s' ≡ ends s n → ReadsFor entry wide count v' s'
-  end_stands v' is = cases (nat_eq n s.first) (is_more s) (equal n s.first) is
+  end_stands v' is = cases (nat_eq n s.first) (is_more s) (eqb-true n s.first) is
     where
       cases : (b more : Bool) → (b ≡ true → n ≡ s.first) → s' ≡ (if b then follows more s else restarted s) → ReadsFor entry wide count v' s'
       cases true true same is = subst (ReadsFor entry wide count v') (sym is) record { laid = h.laid; reading = λ b. absurd (cc); parts = (one_more (same refl)).1 }
@@ -79,7 +76,7 @@ module _ (entry : ℕ → ℕ → List ℕ) (wide : ℕ → ℕ) (count most : �
       cases false more same is = subst (ReadsFor entry wide count v') (sym is) record { laid = h.laid; reading = λ b. absurd (cc); parts = λ i l. absurd (omega arith) }
 
   pub end_tells : s' ≡ ends s n → told ≡ ends_told s n → TellsWhole entry most s s' told
-  end_tells is e = cases (nat_eq n s.first) (is_more s) (Torn s.rank s.first n) (equal n s.first) (not_less_from_test (s.rank + 1) (length s.parts)) is e
+  end_tells is e = cases (nat_eq n s.first) (is_more s) (Torn s.rank s.first n) (eqb-true n s.first) (not_less_from_test (s.rank + 1) (length s.parts)) is e
     where
       cases : (b more : Bool) (torn : Again) → (b ≡ true → n ≡ s.first) → (more ≡ false → length s.parts ≤ s.rank + 1) → s' ≡ (if b then follows more s else restarted s) → told ≡ (if b then follows_told more s else read.Again torn) → TellsWhole entry most s s' told
       cases true true torn same none is e = subst (TellsWhole entry most s s') (sym e) (ap (λ (z : Reader). z.last) is)

@@ -23,13 +23,6 @@ pub none_passes : {X : Type 0} (p : X → Bool) (xs : List X) → list_any p xs 
 none_passes p [] e = refl
 none_passes p (x ∷ xs) e = below_step (p x) (list_any p xs) (position_or_len p xs) (length xs) (none_passes p xs) e
 
-any_some_by : {X : Type 0} (p : X → Bool) (xs : List X) (k : ℕ) → position p xs ≡ Some k → (b : Bool) → list_any p xs ≡ b → b ≡ true
-any_some_by p xs k some true e = refl
-any_some_by p xs k some false e =
-    let below = position_below p xs k some in
-    let same = position_some p xs k some in
-    absurd (omega (arith, below, same, none_passes p xs e))
-
 any_by : {X : Type 0} (p : X → Bool) (xs : List X) → position_or_len p xs ≢ length xs → (b : Bool) → list_any p xs ≡ b → b ≡ true
 any_by p xs other true e = refl
 any_by p xs other false e = absurd (other (none_passes p xs e))
@@ -37,7 +30,3 @@ any_by p xs other false e = absurd (other (none_passes p xs e))
 -- some item passes where the place of the first one isn't the end
 pub any_before_end : {X : Type 0} (p : X → Bool) (xs : List X) → position_or_len p xs ≢ length xs → list_any p xs ≡ true
 any_before_end p xs other = any_by p xs other (list_any p xs) refl
-
--- whether some item passes, by the place of the first one that does
-pub any_some : {X : Type 0} (p : X → Bool) (xs : List X) (k : ℕ) → position p xs ≡ Some k → list_any p xs ≡ true
-any_some p xs k some = any_some_by p xs k some (list_any p xs) refl

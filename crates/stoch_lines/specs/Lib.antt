@@ -5,14 +5,11 @@ pub mod Places
 pub mod Sayings
 pub mod StochOutcome
 pub mod Turns
-pub use Rattle.dec_core.specs.DecimalValue
 pub use Rattle.line_core.specs.SplitLines
-pub use Rattle.smps_words.specs.CoreFacts
 pub use Rattle.smps_words.specs.FirstPlaces
 pub use Rattle.smps_words.specs.Memory
 pub use Rattle.smps_words.specs.NumberFields
 pub use Rattle.smps_words.specs.Outcomes
-pub use Rattle.smps_words.specs.PeriodFacts
 pub use Rattle.smps_words.specs.Stages
 pub use Rattle.smps_words.specs.Tables
 pub use Rattle.smps_words.specs.TextLines

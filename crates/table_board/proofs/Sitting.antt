@@ -6,7 +6,7 @@ use Rattle.std.proofs.lemmas.List.Elements.{All-append, All-cons, All-nil, All-h
 use mathlib.Core.Option.{none}
 use Rattle.atomic_table.specs.Table.{Me, step, Allows, Splits, Joins}
 use Rattle.atomic_table.specs.Seated.{TableId}
-use Rattle.base_words.proofs.FirstAnswers.{same_some}
+use Rattle.base_words.proofs.FirstAnswers.{no_some, same_some}
 use Rattle.window_words.specs.Views.{one, OwnsOne, pending, begun, entry_of, one_more, longer, close_first, accept, after, ended, is_whole, with_reading, with_accepted}
 use Rattle.window_words.specs.Conditions.{AcceptedBelow, IsNotAhead, OwnStamp, MayOpen, IsNextWord, IsAllPut, ReadsOn, HasReadAll, IsEntryWhole}
 use Rattle.window_words.specs.Rule.{start, Windows}
@@ -21,15 +21,12 @@ use Rattle.window_words.specs.declared.views.Call.{Call}
 use Rattle.window_words.specs.declared.views.Call.TheVariants.{Open, Put, Close, Begin, Read, End, Stop, Stopped}
 use Rattle.window_words.proofs.WindowPlaces.{start_above_zero, lies_inside}
 use Rattle.window_words.proofs.Writers.{opening_keeps, putting_keeps, closing_keeps}
-use Rattle.window_words.proofs.Readers.{beginning_keeps, reading_keeps, ending_keeps}
+use Rattle.window_words.proofs.Readers.{beginning_keeps, ending_keeps, owned_stays, reading_keeps}
 use Rattle.window_words.proofs.Stopping.{stopping_keeps, asking_keeps}
 use Rattle.window_words.proofs.Sharing.{dealing_keeps, joining_keeps}
 use Rattle.window_words.proofs.Listed.{length_push}
 use Rattle.table_board.specs.Tables.{SeatValue, seated}
 use Rattle.table_board.specs.Seats.{first_owned, Sits, Leaves}
-
-no_some : {A B : Type 0} (x : A) → None ≡ Some x → B
-no_some x e = absurd cc
 
 -- closing an entry changes no window
 closed_first : (k : ℕ) (l : List Owned) → first_owned (close_first k l) ≡ first_owned l
@@ -45,13 +42,6 @@ first_of_both [] m = refl
 first_of_both (a ∷ others) m = refl
 
 -- the end of a reading changes neither windows nor the open entry, and nothing is read after it
-ended_owned : (leaders n : ℕ) (v : View) (o : Option Reading) → (ended leaders n v o).owned ≡ v.owned
-ended_owned leaders n v None = refl
-ended_owned leaders n v (Some r) = by_test (is_whole r.first n)
-  where
-    by_test : (b : Bool) → (if b then with_accepted v (accept leaders r.window (n / 2) v.accepted) else with_reading v None).owned ≡ v.owned
-    by_test true = refl
-    by_test false = refl
 
 ended_pending : (leaders n : ℕ) (v : View) (o : Option Reading) → (ended leaders n v o).pending ≡ v.pending
 ended_pending leaders n v None = refl
@@ -126,7 +116,7 @@ module _ {M : Type 0} (E : M → ℕ → ℕ → List ℕ) (W : M → ℕ → �
   in_table : (w x p : ℕ) → w < C of → x ≤ W of w → p ≡ start (W of) w + x → p < table.words
   in_table w x p low fit place = let all = sits.laid.0.2 in let inside = lies_inside (W of) w (C of) x low fit in omega arith
 
-  pub index_below : (o : ℕ) → o < C of → o < length starts
+  index_below : (o : ℕ) → o < C of → o < length starts
   index_below o low = let many = sits.laid.0.0 in omega arith
 
   -- OPEN
@@ -278,7 +268,7 @@ module _ {M : Type 0} (E : M → ℕ → ℕ → List ℕ) (W : M → ℕ → �
 
   pub end_keeps : (w p n : ℕ) (id' : TableId) (me' : Me ℕ (Known M)) → HasReadAll (W old.1) old.2 w → id' ≡ id → Ends p n me' → After id' me' window entry put read
   end_keeps w p n id' me' m same gains = let m' = end_may w m in let t = gains of m'.0 sits.same_of m'.1 in let v : View = after (Ld of) (End m'.0.window) n me.0.view in
-      let owned : v.owned ≡ me.0.view.owned = ended_owned (Ld of) n me.0.view me.0.view.reading in
+      let owned : v.owned ≡ me.0.view.owned = owned_stays (Ld of) n me.0.view me.0.view.reading in
       let free : v.pending ≡ me.0.view.pending = ended_pending (Ld of) n me.0.view me.0.view.reading in
       let over : v.reading ≡ None = subst (λ (o : Option Reading). (ended (Ld of) n me.0.view o).reading ≡ None) (sym m'.1) (ended_reading (Ld of) n me.0.view m'.0) in
       sits_with v id' me' window entry put read same t.0 (sits.own ∙ sym (ap first_owned owned)) (subst (All (λ (a : Owned). a.window < C of)) (sym owned) sits.below)

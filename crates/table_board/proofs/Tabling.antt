@@ -1,27 +1,26 @@
 -- A fresh table meets the rule, and its seats are dealt one behind the other.
-use Rattle.std.proofs.Common.{◌≡◌, true, ℕ, zero, suc, ◌+◌, ◌*◌, ◌<◌, ◌≤◌, ◌^◌, List, [], ◌∷◌, ◌++◌, map, length, get_or, replicate, sym, refl, ap, ◌∙◌, subst, arith}
+use Rattle.std.proofs.Common.{◌≡◌, true, ℕ, zero, suc, ◌+◌, ◌*◌, ◌<◌, ◌≤◌, ◌^◌, List, [], ◌∷◌, ◌++◌, map, length, replicate, sym, refl, ap, ◌∙◌, subst, arith}
 use Rattle.std.specs.Prelude.{All, Option, Some, None, is_some, IsSome}
 use Rattle.std.specs.List.{range_with_len}
 use Rattle.std.proofs.lemmas.List.{length-replicate, map-append}
 use Rattle.std.proofs.lemmas.List.FromFn.{map-range_with_len_more}
 use Rattle.std.proofs.lemmas.List.Elements.{All-nil}
 use mathlib.Core.Option.{some, some-injective, some-ne-none}
-use mathlib.Core.Logic.{dite}
-use native.Mathlib.Decide.{ℕ_discrete}
 use lib.ListN.{get_elem?}
 use Rattle.atomic_table.specs.Table.{Me, opening}
 use Rattle.atomic_table.specs.Seated.{TableId}
 use Rattle.atomic_table.specs.declared.shared.Seat.{Seat}
-use Rattle.base_words.proofs.FirstAnswers.{same_some}
+use Rattle.base_words.proofs.FirstAnswers.{no_some, same_some}
+use Rattle.window_places.specs.Places.{ArePlaces}
 use Rattle.window_words.specs.Conditions.{HasClosed}
 use Rattle.window_words.specs.Views.{pending}
 use Rattle.window_words.specs.Rule.{start, stamp, Account, Knows, Windows}
 use Rattle.window_words.specs.Seating.{dealing_view, owner_view, one_more_dealt, next_owner}
 use Rattle.window_words.specs.declared.views.Known.{Known}
 use Rattle.window_words.specs.declared.views.Owned.{Owned}
-use Rattle.window_words.proofs.Listed.{length_push, push_at, push_before}
+use Rattle.window_words.proofs.Listed.{same_all}
 use Rattle.window_words.proofs.Sharing.{none_accepted}
-use Rattle.table_board.specs.Tables.{ArePlaces, AreStarts, IsFirst, SeatValue, Stands, seated, all_seats, first_seat}
+use Rattle.table_board.specs.Tables.{AreStarts, IsFirst, SeatValue, Stands, seated, all_seats, first_seat}
 use Rattle.table_board.specs.Seats.{Sits}
 
 abbrev no_entries : List ℕ
@@ -29,11 +28,6 @@ no_entries = []
 
 abbrev nought : ℕ
 nought = 0
-
-zeros : (n i : ℕ) → get_or (replicate n nought) i nought ≡ nought
-zeros zero i = refl
-zeros (suc n) zero = refl
-zeros (suc n) (suc i) = zeros n i
 
 only : {A : Type 0} (x y : A) (j : ℕ) → get_elem? (x ∷ []) j ≡ some y → (j ≡ 0) × (x ≡ y)
 only x y zero e = (refl, some-injective x y e)
@@ -45,7 +39,7 @@ module _ {M : Type 0} (entry : ℕ → ℕ → List ℕ) (wide : ℕ → ℕ) (c
 
   first_knows : Knows entry wide count ws 0 0 (λ w. 0) 0 (dealing_view count 0)
   first_knows = record {
-    hubs = λ _. (refl, refl, sym (zeros (start wide count) 0));
+    hubs = λ _. (refl, refl, sym (same_all nought (start wide count) 0));
     owns = All-nil (Account entry wide 0 ws (λ w. 0) 0 None);
     reads = tt;
     accepted = λ w. none_accepted (λ k. 2 * k ≤ stamp wide ws w) count w;
@@ -60,12 +54,12 @@ module _ {M : Type 0} (entry : ℕ → ℕ → List ℕ) (wide : ℕ → ℕ) (c
     owner = λ w. 0;
     long = length-replicate (start wide count) 0;
     in_range = omega arith;
-    new = λ w l b. zeros (start wide count) (start wide w);
-    top = λ w b. let z = zeros (start wide count) (start wide w) in omega arith;
-    whole = λ w k b pos e i l. let z = zeros (start wide count) (start wide w) in absurd (omega arith);
+    new = λ w l b. same_all nought (start wide count) (start wide w);
+    top = λ w b. let z = same_all nought (start wide count) (start wide w) in omega arith;
+    whole = λ w k b pos e i l. let z = same_all nought (start wide count) (start wide w) in absurd (omega arith);
     same = λ j v m at is. sym (same_some (ap (λ (z : Known M). z.of) (only (first_seat count of) v j at).1 ∙ is));
     each = λ j v at. let t = only (first_seat count of) v j at in subst (λ (z : ℕ × Known M). Knows entry wide count ws 0 0 (λ w. 0) z.0 z.1.view) (λ i. (sym t.0 i, t.1 i)) first_knows;
-    following = λ w u past b l. let at_w = zeros (start wide count) (start wide w) in let at_u = zeros (start wide count) (start wide u) in omega arith;
+    following = λ w u past b l. let at_w = same_all nought (start wide count) (start wide w) in let at_u = same_all nought (start wide count) (start wide u) in omega arith;
     listed = λ i j v u at_v at_u. subst (λ (z : Known M). All (HasClosed v.view) z.view.owned) (only (first_seat count of) u j at_u).1 (All-nil (HasClosed v.view));
   }
 
@@ -81,22 +75,6 @@ fresh_stands {M} W C table key of words ws starts n s places zero_words same few
       laid = ((places.0, places.1, all ∙ places.2), omega arith);
       first = λ s' is. subst (λ (z : Seat ℕ (Known M)). IsFirst table of (C of) z) (same_some is) (one, first);
     }
-
--- no window, and one more
-pub places_none : (wide : ℕ → ℕ) (starts : List ℕ) → starts ≡ [] → ArePlaces wide 0 starts 1
-places_none wide starts none_yet = (ap length none_yet, λ w l. absurd (omega arith), refl)
-
-pub places_more : (wide : ℕ → ℕ) (n : ℕ) (starts starts' : List ℕ) (next next' width : ℕ) → ArePlaces wide n starts next → width ≡ wide n → starts' ≡ starts ++ next ∷ [] → next' ≡ next + width + 1 → ArePlaces wide (n + 1) starts' next'
-places_more wide n starts starts' next next' width p is pushed past = let many = p.0 in let l = length_push starts next in let l' : length starts' ≡ length (starts ++ next ∷ []) = ap length pushed in let begin = p.2 in (
-  omega arith,
-  λ w b. dite (ℕ_discrete w n)
-      (λ last. ap (λ (z : List ℕ). get_or z w 0) pushed ∙ (push_at starts next w (omega arith) ∙ (begin ∙ ap (start wide) (sym last))))
-      (λ other. ap (λ (z : List ℕ). get_or z w 0) pushed ∙ (push_before starts next w (omega arith) ∙ p.1 w (omega arith))),
-  (let e : start wide (suc n) ≡ next' = omega arith in let one : n + 1 ≡ suc n = omega arith in sym (ap (start wide) one ∙ e)),
-)
-
-no_some : {A B : Type 0} (x : A) → None ≡ Some x → B
-no_some x e = absurd cc
 
 -- the first seat of a table
 pub first_sits : {M : Type 0} (W : M → ℕ → ℕ) (C L : M → ℕ) (table : TableId) (key : M) (id : TableId) (me : Me ℕ (Known M)) (of : M) (starts : List ℕ) → id ≡ table → me ≡ (first_seat (C of) of, []) → key ≡ of → AreStarts (W of) (C of) starts table.words

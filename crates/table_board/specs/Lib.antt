@@ -1,6 +1,6 @@
 pub mod Seats
 pub mod Tables
-pub use Rattle.window_words.specs.Conditions
+pub use Rattle.window_places.specs.Places
 pub use Rattle.window_words.specs.Rule
 pub use Rattle.window_words.specs.Seating
 pub use Rattle.window_words.specs.Steps

@@ -4,7 +4,6 @@ use Rattle.atomic_table.specs.Table.{Me}
 use Rattle.atomic_table.specs.Seated.{TableId}
 use Rattle.window_words.specs.Views.{after, pending}
 use Rattle.window_words.specs.Seating.{TellsOwn}
-use Rattle.window_words.specs.declared.views.View.{View}
 use Rattle.window_words.specs.declared.views.Known.{Known}
 use Rattle.window_words.specs.declared.views.Owned.{Owned}
 use Rattle.window_words.specs.declared.views.Reading.{Reading}

@@ -1,20 +1,14 @@
 -- Where a table's windows lie, and the seats of a fresh board.
-use Rattle.std.specs.Prelude.{◌≡◌, ◌<◌, ℕ, ◌^◌, List, [], map, length, slice_index, Option, Some}
+use Rattle.std.specs.Prelude.{◌≡◌, ◌<◌, ℕ, ◌^◌, List, [], map, Option, Some}
+use Rattle.window_places.specs.Places.{ArePlaces}
 use Rattle.atomic_table.specs.Seated.{TableId}
 use Rattle.atomic_table.specs.declared.shared.Seat.{Seat}
-use Rattle.window_words.specs.Rule.{start}
 use Rattle.window_words.specs.Seating.{dealing_view, fresh_views}
 use Rattle.window_words.specs.Steps.{known}
 use Rattle.window_words.specs.declared.views.View.{View}
 use Rattle.window_words.specs.declared.views.Known.{Known}
 
--- where the windows begin, and how many words there are
-abbrev pub ArePlaces : (ℕ → ℕ) → ℕ → List ℕ → ℕ → Type 0
-ArePlaces wide count starts words =
-    (length starts ≡ count) × ((w : ℕ) → w < count → slice_index starts w ≡ start wide w)
-    × (words ≡ start wide count)
-
--- the same, of so few words that each has a number
+-- where the windows begin, and how many words there are: so few that each has a number
 abbrev pub AreStarts : (ℕ → ℕ) → ℕ → List ℕ → ℕ → Type 0
 AreStarts wide count starts words = ArePlaces wide count starts words × (words < 2 ^ 64)
 
@@ -37,7 +31,8 @@ seated table of v = (table, of, v)
 abbrev pub all_seats : {M : Type 0} → TableId → M → ℕ → List (SeatValue M)
 all_seats table of count = map (seated table of) (fresh_views count)
 
--- what a board keeps: where its windows lie, and until it gives out its seats the first of the table
+-- what a board keeps: where its windows lie, and the first seat of the table until it gives out its
+-- seats
 pub record Stands {M : Type 0} (wide : M → ℕ → ℕ) (count : M → ℕ) (table : TableId) (key of : M)
     (starts : List ℕ) (hub : Option (Seat ℕ (Known M))) : Type 0 where
   pub same_key : key ≡ of

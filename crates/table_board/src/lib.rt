@@ -1,7 +1,6 @@
 //! A board for threads: windows of atomic words in one table, with no lock.
 #![tactic(auto)]
 
-mod places;
 mod rule;
 mod seat;
 mod table;

@@ -1,13 +1,13 @@
 ghost use Rattle.std.specs.Prelude.{◌≡◌, true, IfOk};
 ghost use Rattle.table_board.specs.Tables.{all_seats, IsFirst};
 
-use crate::places::{places_of, zeros};
 use crate::rule::Ruled;
 use crate::seat::TableSeat;
 use atomic_table::{Seat, Table};
 use std::alloc::{AllocError, Global};
 use std::marker::Model;
 use wide_num::List;
+use window_places::{places_of, zeros};
 use window_words::{Known, Meaning};
 
 /// Windows of atomic words, which lie in one table. It gives out its seats once.

@@ -1,10 +1,9 @@
 -- Lists of lines, one more at a time.
-use Rattle.std.proofs.Common.{arith, ap, sym, ◌∙◌, ◌≡◌, ℕ, ◌+◌, ◌^◌, ◌<◌, List, [], ◌∷◌, ◌++◌, length, map, add-one, append_assoc, append-nil, subst}
-use Rattle.std.proofs.lemmas.Grind.{flat_map-append}
+use Rattle.std.proofs.Common.{arith, ap, sym, ◌∙◌, ◌≡◌, ℕ, ◌+◌, ◌^◌, ◌<◌, List, [], ◌∷◌, ◌++◌, length, map, append_assoc, subst}
 use Rattle.std.proofs.lemmas.List.Elements.{All-append, All-cons}
 use Rattle.std.proofs.lemmas.List.FromFn.{map-range_with_len_more}
 use Rattle.std.specs.List.{flat_map, range_with_len}
-use Rattle.base_words.proofs.ListSumsByNumber.{range_more}
+use Rattle.base_words.proofs.ListSumsByNumber.{flat_map-next}
 use Rattle.std.specs.Prelude.{codes, decimal, slice_index_or}
 use Rattle.boxed_problem.specs.declared.parts.Limits.{Limits}
 use Rattle.smps_words.specs.declared.core_file.Core.{Core}
@@ -13,15 +12,6 @@ use Rattle.sp_model.specs.declared.run.Run.{Run}
 use Rattle.text_lines.specs.Lines.{AreFull, limit_text, line_of, name_at}
 use Rattle.text_lines.specs.ShowLines.{column_line, column_text, limits_line, no_row, row_line}
 
--- the parts at 1 to t + 1
-parts_more : (f : ℕ → List ℕ) (t : ℕ) → flat_map f (range_with_len 1 (t + 1)) ≡ flat_map f (range_with_len 1 t) ++ f (t + 1)
-parts_more f t =
-    let next : 1 + t ≡ t + 1 = omega arith in
-    ap (λ n. flat_map f (range_with_len 1 n)) (add-one t)
-    ∙ ap (flat_map f) (range_more 1 t ∙ ap (λ m. range_with_len 1 t ++ m ∷ []) next)
-    ∙ flat_map-append f (range_with_len 1 t) ((t + 1) ∷ [])
-    ∙ ap (λ last. flat_map f (range_with_len 1 t) ++ last) (append-nil (f (t + 1)))
-
 -- one part more behind a text
 pub part_put : (f : ℕ → List ℕ) (old mid new piece : List ℕ) (t : ℕ) → mid ≡ old ++ flat_map f (range_with_len 1 t) → new ≡ mid ++ piece → piece ≡ f (t + 1) → new ≡ old ++ flat_map f (range_with_len 1 (t + 1))
 part_put f old mid new piece t begun put is =
@@ -29,13 +19,7 @@ part_put f old mid new piece t begun put is =
     ∙ ap (λ text. text ++ piece) begun
     ∙ append_assoc old (flat_map f (range_with_len 1 t)) piece
     ∙ ap (λ last. old ++ (flat_map f (range_with_len 1 t) ++ last)) is
-    ∙ ap (λ text. old ++ text) (sym (parts_more f t))
-
--- one line more
-pub line_put : (f : ℕ → List ℕ) (n : ℕ) (lines new : List (List ℕ)) (line : List ℕ) → lines ≡ map f (range_with_len 0 n) → new ≡ lines ++ line ∷ [] → line ≡ f n → new ≡ map f (range_with_len 0 (n + 1))
-line_put f n lines new line begun put is =
-    let at : 0 + n ≡ n = omega arith in
-    put ∙ ap (λ ls. ls ++ line ∷ []) begun ∙ ap (λ l. map f (range_with_len 0 n) ++ l ∷ []) is ∙ sym (map-range_with_len_more f 0 n n at)
+    ∙ ap (λ text. old ++ text) (sym (flat_map-next f t))
 
 -- one line more behind a first one
 pub line_behind : (first : List ℕ) (f : ℕ → List ℕ) (n : ℕ) (lines new : List (List ℕ)) (line : List ℕ) → lines ≡ first ∷ map f (range_with_len 0 n) → new ≡ lines ++ line ∷ [] → line ≡ f n → new ≡ first ∷ map f (range_with_len 0 (n + 1))

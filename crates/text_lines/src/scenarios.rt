@@ -1,5 +1,5 @@
 ghost use Rattle.std.specs.Prelude.{◌≡◌, ◌++◌, ◌<◌, ◌≤◌, OnOk, IfOk, length};
-ghost use Rattle.sp_model.specs.Problems.{scenario_at, scenarios};
+ghost use Rattle.sp_model.specs.Problems.{scenarios};
 ghost use Rattle.tree_core.specs.Nodes.{node_place};
 ghost use Rattle.text_lines.specs.Lines.{AreFull};
 ghost use Rattle.text_lines.specs.ShowLines.{limits_line, node_text, nodes_text, scenario_line, scenario_lines_of};
@@ -8,7 +8,7 @@ use crate::limits::{limits_at, scenario_limits};
 use crate::writing::{end_line, put_count, put_limit, put_name, put_number};
 use boxed_problem::Limits;
 use smps_words::Core;
-use sp_model::Run;
+use sp_model::{Run, weight};
 use std::alloc::{AllocError, Global};
 use wide_num::{List, Text};
 
@@ -42,14 +42,6 @@ fn put_nodes(line: &mut Vec<u8>, run: &Run, s: u32) -> Result<(), AllocError>
         put_node(line, run, s, t + 1)?;
     }
     Ok(())
-}
-
-// The weight of a scenario that is there.
-fn weight(run: &Run, s: u32) -> i128
-    requires { s < scenarios run.now }
-    ensures { result ≡ (scenario_at run.now s).weight }
-{
-    run.program.scenarios.as_slice()[s as usize].weight
 }
 
 fn scenario_line(alloc: Global, run: &Run, s: u32) -> Result<Text, AllocError>

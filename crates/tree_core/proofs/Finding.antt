@@ -6,10 +6,10 @@ use Rattle.std.specs.Option.{IsSome}
 use Rattle.std.proofs.lemmas.List.Folds.{Any-from_list_any, list_any-append}
 use Rattle.tree_core.specs.declared.tree.Node.{Node}
 use Rattle.tree_core.specs.Nodes.{holds, members, node_number, node_place, nodes_of, StandsOnce}
-use Rattle.tree_core.proofs.Listing.{any_counted, passes_is}
+use Rattle.tree_core.proofs.Listing.{any_counted}
 use Rattle.base_words.proofs.Comparisons.{both_left, both_right}
 use Rattle.base_words.proofs.NumberTests.{same_from_test}
-use Rattle.base_words.proofs.Positions.{place_there}
+use Rattle.base_words.proofs.Positions.{passes_is, place_there}
 
 -- a node has the scenario where it is one of those of the stage
 any_holds : (nodes : List Node) (t s : ℕ) → list_any (holds s t) nodes ≡ list_any (λ u. u == s) (members nodes t)

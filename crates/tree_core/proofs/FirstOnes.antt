@@ -7,8 +7,9 @@ use Rattle.std.proofs.lemmas.List.Sums.{sum_by-append}
 use Rattle.std.proofs.lemmas.List.{length-map, map-append}
 use Rattle.std.proofs.lemmas.List.Quantifiers.{position-Some}
 use Rattle.base_words.proofs.FirstAnswers.{option_or_none}
+use Rattle.base_words.proofs.Positions.{passes_is}
 use Rattle.tree_core.specs.Marks.{alike, firsts, groups, is_marked_before}
-use Rattle.tree_core.proofs.Listing.{any_counted, any_more, filter_more, joined_at, joined_none, none_pass, ones, passes_is, place_push}
+use Rattle.tree_core.proofs.Listing.{any_counted, any_more, filter_more, joined_at, joined_none, none_pass, ones, place_push}
 
 -- the place of the list of a mark
 abbrev pub place_of : (ℕ → ℕ) → ℕ → ℕ → Option ℕ

@@ -1,6 +1,6 @@
 -- One number more in a range: what a test, a filter and a place make of it.
 
-use Rattle.std.proofs.Common.{arith, refl, sym, ap, ◌∙◌, ◌≡◌, ℕ, zero, suc, ◌+◌, ◌<◌, nat_lt, Bool, true, false, cond, not, ◌||◌, List, [], ◌∷◌, ◌++◌, length, get_or, Option, Some, None, is_some, map, set, append-nil}
+use Rattle.std.proofs.Common.{arith, refl, sym, ap, ◌∙◌, ◌≡◌, ℕ, zero, suc, ◌+◌, ◌<◌, nat_lt, Bool, true, false, cond, not, ◌||◌, List, [], ◌∷◌, ◌++◌, length, get_or, Option, Some, None, map, set, append-nil}
 use Rattle.std.specs.List.{AllByRecursion, count_by, filter, list_any, position, position_or_len, range_with_len}
 use Rattle.std.specs.Option.{option_map, option_or}
 use Rattle.std.proofs.lemmas.List.Elements.{filter-append}
@@ -10,6 +10,7 @@ use Rattle.base_words.proofs.ListSumsByNumber.{range_more}
 use Rattle.base_words.proofs.Booleans.{or_false}
 use Rattle.base_words.proofs.Comparisons.{not_not}
 use Rattle.base_words.proofs.FirstAnswers.{same_some}
+use Rattle.base_words.proofs.Positions.{place-cons}
 
 range_push : (n : ℕ) → range_with_len 0 (suc n) ≡ range_with_len 0 n ++ n ∷ []
 range_push n = let e : 0 + n ≡ n = omega arith in range_more 0 n ∙ ap (λ m. range_with_len 0 n ++ m ∷ []) e
@@ -23,31 +24,6 @@ any_more p n = ap (list_any p) (range_push n) ∙ list_any-append p (range_with_
 
 pub filter_more : (p : ℕ → Bool) (n : ℕ) → filter p (range_with_len 0 (suc n)) ≡ filter p (range_with_len 0 n) ++ cond (p n) (n ∷ []) []
 filter_more p n = ap (filter p) (range_push n) ∙ filter-append p (range_with_len 0 n) (n ∷ [])
-
-shift_place : (a b : ℕ) → cond (nat_lt (1 + a) (suc b)) (Some (1 + a)) None ≡ option_map (λ k. k + 1) (cond (nat_lt a b) (Some a) None)
-shift_place a b = by_test (nat_lt a b) (nat_lt (1 + a) (suc b)) (grind arith)
-  where
-    by_test : (t u : Bool) → u ≡ t → cond u (Some (1 + a)) None ≡ option_map (λ k. k + 1) (cond t (Some a) None)
-    by_test true u e = ap (λ v. cond v (Some (1 + a)) None) e ∙ ap Some (omega arith)
-    by_test false u e = ap (λ v. cond v (Some (1 + a)) None) e
-
--- the first place that passes, item by item
-pub place-cons : {X : Type 0} (p : X → Bool) (x : X) (xs : List X) → position p (x ∷ xs) ≡ cond (p x) (Some 0) (option_map (λ k. k + 1) (position p xs))
-place-cons {X} p x xs = by_test (p x)
-  where
-    by_test : (t : Bool) → cond (nat_lt (cond (not t) (1 + position_or_len p xs) 0) (suc (length xs))) (Some (cond (not t) (1 + position_or_len p xs) 0)) None ≡ cond t (Some 0) (option_map (λ k. k + 1) (position p xs))
-    by_test true = let e : nat_lt 0 (suc (length xs)) ≡ true = grind arith in ap (λ v. cond v (Some 0) None) e
-    by_test false = shift_place (position_or_len p xs) (length xs)
-
--- an item passes exactly where there is a place
-pub passes_is : {X : Type 0} (p : X → Bool) (xs : List X) → list_any p xs ≡ is_some (position p xs)
-passes_is p [] = refl
-passes_is p (x ∷ xs) = by_test (p x) (position p xs) (passes_is p xs) ∙ ap is_some (sym (place-cons p x xs))
-  where
-    by_test : (t : Bool) (o : Option ℕ) → list_any p xs ≡ is_some o → (t || list_any p xs) ≡ is_some (cond t (Some 0) (option_map (λ k. k + 1) o))
-    by_test true o e = refl
-    by_test false None e = e
-    by_test false (Some k) e = e
 
 -- the place in a list with one more item at the end
 pub place_push : {X : Type 0} (p : X → Bool) (xs : List X) (x : X) → position p (xs ++ x ∷ []) ≡ option_or (position p xs) (cond (p x) (Some (length xs)) None)
@@ -117,13 +93,6 @@ joined_at {A} p g n (f ∷ fs) k h e = by_test (p f) refl (sym (sum_by-cons (λ 
         ∙ ap (λ l. l ∷ map (λ x. g x ++ cond (p x) (n ∷ []) []) fs) (append-nil (g f))
         ∙ ap (λ ls. g f ∷ ls) rest
         ∙ ap (λ m. set (map g (f ∷ fs)) m (get_or (map g (f ∷ fs)) m [] ++ n ∷ [])) (sym found.2)
-
--- the first place that passes, and none where no item does
-pub place_at : {X : Type 0} (p : X → Bool) (xs : List X) (i : ℕ) (d : X) → i < length xs → ((k : ℕ) → k < i → p (get_or xs k d) ≡ false) → p (get_or xs i d) ≡ true → position p xs ≡ Some i
-place_at p xs i d h before at =
-    let place = position_or_len_is p xs i d (omega arith) before (λ l. at) in
-    let there : nat_lt i (length xs) ≡ true = grind arith in
-    ap (λ k. cond (nat_lt k (length xs)) (Some k) None) place ∙ ap (λ t. cond t (Some i) None) there
 
 pub no_place : {X : Type 0} (p : X → Bool) (xs : List X) (i : ℕ) (d : X) → i ≡ length xs → ((k : ℕ) → k < i → p (get_or xs k d) ≡ false) → position p xs ≡ None
 no_place p xs i d h before =

@@ -2,33 +2,23 @@
 
 use Rattle.std.proofs.Common.{arith, refl, sym, ap, subst, ◌∙◌, ◌≡◌, ℕ, zero, suc, ◌+◌, ◌*◌, ◌<◌, ◌≤◌, ◌==◌, Bool, true, false, cond, List, [], ◌∷◌, ◌++◌, map, length, get_or, append-nil}
 use Rattle.std.specs.List.{All, AllPairs, Contains, filter, flat_map, range_with_len}
-use Rattle.std.proofs.lemmas.Grind.{flat_map-append}
 use Rattle.std.proofs.lemmas.List.Elements.{All-append, All-head, All-map, All-nil, All-tail, Contains-append_left, Contains-append_right, filter-append}
 use Rattle.std.proofs.lemmas.List.Concat.{length-flat_map}
 use Rattle.std.proofs.lemmas.List.FromFn.{length-range_with_len}
 use Rattle.std.proofs.lemmas.List.Kept.{AllPairs-cons}
 use Rattle.std.proofs.lemmas.List.Sums.{sum_by-le}
-use Rattle.base_words.proofs.ListSumsByNumber.{range_more}
+use Rattle.base_words.proofs.ListSumsByNumber.{flat_map-more}
 use Rattle.base_words.proofs.Pairs.{pairs_head, pairs_tail}
 use Rattle.tree_core.specs.declared.tree.Node.{Node}
 use Rattle.tree_core.specs.Marks.{node, nodes_at}
 use Rattle.tree_core.specs.Nodes.{nodes_of, Precedes}
-
--- one stage more
-stage_more : {X : Type 0} (f : ℕ → List X) (n : ℕ) → flat_map f (range_with_len 1 (suc n)) ≡ flat_map f (range_with_len 1 n) ++ f (suc n)
-stage_more f n =
-    let e : 1 + n ≡ suc n = omega arith in
-    ap (flat_map f) (range_more 1 n ∙ ap (λ m. range_with_len 1 n ++ m ∷ []) e) ∙ flat_map-append f (range_with_len 1 n) (suc n ∷ []) ∙ ap (λ l. flat_map f (range_with_len 1 n) ++ l) (append-nil (f (suc n)))
-
-pub stage_next : {X : Type 0} (f : ℕ → List X) (n : ℕ) → flat_map f (range_with_len 1 (n + 1)) ≡ flat_map f (range_with_len 1 n) ++ f (n + 1)
-stage_next f n = let e : suc n ≡ n + 1 = omega arith in let P : ℕ → Type 0 = λ m. flat_map f (range_with_len 1 m) ≡ flat_map f (range_with_len 1 n) ++ f m in subst P e (stage_more f n)
 
 -- what holds of the items of each stage
 pub each_stage : {X : Type 0} (P : X → Type 0) (f : ℕ → List X) (n : ℕ) → ((t : ℕ) → 1 ≤ t → t ≤ n → All P (f t)) → All P (flat_map f (range_with_len 1 n))
 each_stage P f zero h = All-nil P
 each_stage P f (suc n) h =
     let Q : List _ → Type 0 = All P in
-    subst Q (sym (stage_more f n)) (All-append P (flat_map f (range_with_len 1 n)) (f (suc n)) (each_stage P f n (λ t l m. h t l (omega arith))) (h (suc n) (omega arith) (omega arith)))
+    subst Q (sym (flat_map-more f n)) (All-append P (flat_map f (range_with_len 1 n)) (f (suc n)) (each_stage P f n (λ t l m. h t l (omega arith))) (h (suc n) (omega arith) (omega arith)))
 
 -- of nodes of one stage a filter by the stage keeps all or none
 kept_stage : (t u : ℕ) (gs : List (List ℕ)) → filter (λ (n : Node). n.stage == t) (map (node u) gs) ≡ cond (u == t) (map (node u) gs) []
@@ -48,7 +38,7 @@ stage_past : (owners : List (List ℕ)) (t n : ℕ) → n < t → nodes_of (flat
 stage_past owners t zero h = refl
 stage_past owners t (suc n) h =
     let e : (suc n == t) ≡ false = grind arith in
-    ap (λ ns. nodes_of ns t) (stage_more (nodes_at owners) n)
+    ap (λ ns. nodes_of ns t) (flat_map-more (nodes_at owners) n)
     ∙ filter-append (λ (m : Node). m.stage == t) (flat_map (nodes_at owners) (range_with_len 1 n)) (nodes_at owners (suc n))
     ∙ ap (λ ns. ns ++ nodes_of (nodes_at owners (suc n)) t) (stage_past owners t n (omega arith))
     ∙ kept_stage t (suc n) _
@@ -58,7 +48,7 @@ stage_past owners t (suc n) h =
 pub stage_nodes : (owners : List (List ℕ)) (t n : ℕ) → 1 ≤ t → t ≤ n → nodes_of (flat_map (nodes_at owners) (range_with_len 1 n)) t ≡ nodes_at owners t
 stage_nodes owners t zero l h = absurd (omega arith)
 stage_nodes owners t (suc n) l h =
-    ap (λ ns. nodes_of ns t) (stage_more (nodes_at owners) n)
+    ap (λ ns. nodes_of ns t) (flat_map-more (nodes_at owners) n)
     ∙ filter-append (λ (m : Node). m.stage == t) (flat_map (nodes_at owners) (range_with_len 1 n)) (nodes_at owners (suc n))
     ∙ ap (λ ns. nodes_of (flat_map (nodes_at owners) (range_with_len 1 n)) t ++ ns) (kept_stage t (suc n) _)
     ∙ by_last (suc n == t) refl (λ k. stage_nodes owners t n l k)
@@ -81,11 +71,11 @@ in_stage {X} f x t (suc n) l h at = by_last (suc n == t) refl (λ k. in_stage f 
         let same : t ≡ suc n = grind arith in
         let Q : ℕ → Type 0 = λ m. Contains (f m) x in
         let R : List X → Type 0 = λ xs. Contains xs x in
-        subst R (sym (stage_more f n)) (Contains-append_right (flat_map f (range_with_len 1 n)) (f (suc n)) x (subst Q same at))
+        subst R (sym (flat_map-more f n)) (Contains-append_right (flat_map f (range_with_len 1 n)) (f (suc n)) x (subst Q same at))
     by_last false e r =
         let earlier : t ≤ n = grind arith in
         let R : List X → Type 0 = λ xs. Contains xs x in
-        subst R (sym (stage_more f n)) (Contains-append_left (flat_map f (range_with_len 1 n)) (f (suc n)) x (r earlier))
+        subst R (sym (flat_map-more f n)) (Contains-append_left (flat_map f (range_with_len 1 n)) (f (suc n)) x (r earlier))
 
 pairs_nil : {X : Type 0} (R : X → X → Type 0) → AllPairs R []
 pairs_nil R i j d l m = absurd (omega arith)
@@ -111,7 +101,7 @@ pairs_stages owners zero each = pairs_nil Precedes
 pairs_stages owners (suc n) each =
     let Q : List Node → Type 0 = AllPairs Precedes in
     let before : All (λ (m : Node). m.stage ≤ n) (flat_map (nodes_at owners) (range_with_len 1 n)) = each_stage (λ (m : Node). m.stage ≤ n) (nodes_at owners) n (λ t l h. All-map (λ (m : Node). m.stage ≤ n) (node t) _ (λ k d i. h)) in
-    subst Q (sym (stage_more (nodes_at owners) n))
+    subst Q (sym (flat_map-more (nodes_at owners) n))
     (pairs_append Precedes (flat_map (nodes_at owners) (range_with_len 1 n)) (nodes_at owners (suc n)) (pairs_stages owners n each) (each (suc n))
     (λ k d i. let early = before k d i in All-map (Precedes (get_or (flat_map (nodes_at owners) (range_with_len 1 n)) k d)) (node (suc n)) _ (λ j e l. (omega arith, λ same. absurd (omega arith)))))
 

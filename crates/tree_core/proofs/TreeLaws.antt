@@ -1,12 +1,13 @@
 -- The tree of marks in words that don't make it: who stands where, who shares a node, and in which order.
 
-use Rattle.std.proofs.Common.{arith, refl, sym, ap, subst, ◌∙◌, ◌≡◌, ℕ, ◌+◌, ◌*◌, ◌<◌, ◌≤◌, ◌==◌, ◌&&◌, Bool, true, false, not, List, map, length, get_or}
+use Rattle.std.proofs.Common.{arith, refl, sym, ap, subst, ◌∙◌, ◌≡◌, ℕ, ◌+◌, ◌*◌, ◌<◌, ◌≤◌, ◌==◌, ◌&&◌, Bool, true, false, not, List, length, get_or}
 use Rattle.std.specs.List.{All, AllPairs, Contains, count_by, flat_map, range_with_len}
-use Rattle.std.proofs.lemmas.List.{get_or_default, get_or-map, length-map}
+use Rattle.std.proofs.lemmas.List.{get_or_default, length-map}
 use Rattle.std.proofs.lemmas.List.Elements.{All-contains, All-map, All-weaker, recursion_from_All}
 use Rattle.std.proofs.lemmas.List.Folds.{flat_map-map}
 use Rattle.std.proofs.lemmas.List.Sums.{count_by-le-length, length-filter}
 use Rattle.std.proofs.lemmas.List.FromFn.{length-range_with_len}
+use Rattle.base_words.proofs.Positions.{contains_map}
 use Rattle.tree_core.specs.declared.tree.Node.{Node}
 use Rattle.tree_core.specs.declared.tree.Tree.{Tree}
 use Rattle.tree_core.specs.Marks.{AreNested, alike, firsts, groups, is_marked_before, mark_of, node, nodes_at, tree_of}
@@ -55,9 +56,6 @@ tree_shared stages owners t s u share =
     let one = All-contains (OneMark owners) (tree_of stages owners).nodes n all (share.0, share.2, share.3) s u share.4.1 share.4.2 in
     let P : ℕ → Type 0 = λ v. mark_of owners v s ≡ mark_of owners v u in
     subst P share.4.0 one
-
-contains_map : {X Y : Type 0} (g : X → Y) (xs : List X) (x : X) → Contains xs x → Contains (map g xs) (g x)
-contains_map g xs x at = (at.0, omega (arith, length-map xs g, at.1), get_or-map g xs at.0 x (g x) at.1 ∙ ap g at.2)
 
 pub tree_shares : (stages : ℕ) (owners : List (List ℕ)) (t s u : ℕ) → 1 ≤ t → t ≤ stages → s < length owners → u < length owners → mark_of owners t s ≡ mark_of owners t u → Share (tree_of stages owners).nodes s u t
 unfolding tree_of

@@ -7,6 +7,7 @@ use Rattle.std.specs.Int.{IsGcd, ◌∣◌}
 use Rattle.base_words.specs.Signs.{signed}
 use Rattle.wide_num.specs.LowestTerms.{IsCoprime, IsLowest}
 use Rattle.wide_num.specs.declared.fraction.Fraction.{Fraction}
+use Rattle.base_words.proofs.Comparisons.{above_from_test, below_from_test}
 
 -- the quotient by a divisor, times it
 pub quotient_times : (n by : ℕ) → by ∣ n → n ≡ n / by * by
@@ -43,13 +44,6 @@ factor_above : (b n g : ℕ) → b ≡ n * g → 0 < b → 0 < n
 factor_above b zero g e h = absurd (omega arith)
 factor_above b (suc n) g e h = omega arith
 
--- the test for the sign decides it
-sign_set : (a : ℤ) → int_lt a (pos 0) ≡ true → a <ℤ pos 0
-sign_set a e = grind (arith, ints)
-
-sign_clear : (a : ℤ) → int_lt a (pos 0) ≡ false → pos 0 ≤ℤ a
-sign_clear a e = grind (arith, ints)
-
 -- both numbers, divided by their greatest common divisor, are in lowest terms
 divided_by_gcd :
     (top bottom : ℤ) (g m n : ℕ) → pos 0 <ℤ bottom → 0 < g → IsGcd (unsigned_abs top) (unsigned_abs bottom) g →
@@ -57,7 +51,7 @@ divided_by_gcd :
     IsLowest top bottom (record { top = signed (int_lt top (pos 0)) m; bottom = pos n })
 divided_by_gcd top bottom g m n above positive h over under =
     let s = int_lt top (pos 0) in
-    let top_factor = signed_times top m g s over (sign_set top) (sign_clear top) in
+    let top_factor = signed_times top m g s over (below_from_test top (pos 0)) (above_from_test top (pos 0)) in
     let bottom_factor = signed_times bottom n g false under (λ e. absurd (grind (arith, e))) (λ e. omega (arith, ints)) in
     let bottom_above : 0 < n = factor_above (unsigned_abs bottom) n g under (grind (arith, ints)) in
     let coprime : IsCoprime (signed s m) (pos n) = λ d x y. left_coprime (unsigned_abs top) (unsigned_abs bottom) g m n d positive h over under (subst (λ k. d ∣ k) (magnitude_of s m) x) y in

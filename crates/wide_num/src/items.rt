@@ -1,4 +1,4 @@
-ghost use Rattle.std.specs.Prelude.{◌≡◌, [], ◌∷◌, ◌++◌, ◌<◌, length, slice_get, slice_set, IfOk, MatchOption, OnErr, OnOk};
+ghost use Rattle.std.specs.Prelude.{◌≡◌, [], ◌∷◌, ◌++◌, ◌<◌, length, replicate, slice_get, slice_set, IfOk, MatchOption, OnErr, OnOk};
 
 use std::alloc::{AllocError, Global};
 use std::marker::Model;
@@ -93,6 +93,28 @@ impl<T: Copy> List<T> {
             return Err(AllocError);
         };
         Ok(List { items: copy })
+    }
+
+    /// A copy of the list.
+    pub fn copied(&self) -> Result<List<T>, AllocError>
+        ensures { IfOk result (λ copy. copy ≡ self.now) }
+    {
+        let mut copy = Vec::new(*self.items.allocator());
+        copy.extend_from_slice(self.items.as_slice())?;
+        Ok(List { items: copy })
+    }
+}
+
+impl<T: Copy + Drop> List<T> {
+    /// The same item so many times.
+    pub fn repeated(alloc: Global, item: T, count: usize) -> Result<List<T>, AllocError>
+        ensures { IfOk result (λ list. list ≡ replicate count item) }
+    {
+        let mut items = Vec::new(alloc);
+        for _ in 0..count {
+            items.push(item)?;
+        }
+        Ok(List { items })
     }
 }
 

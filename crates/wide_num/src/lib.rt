@@ -3,6 +3,7 @@
 #![tactic(auto)]
 
 mod checked;
+mod exact;
 mod fraction;
 mod items;
 mod lowest;
@@ -12,6 +13,7 @@ mod signs;
 mod texts;
 
 pub use checked::{Wide, add, mul};
+pub use exact::{minus, opposite, plus, times};
 pub use fraction::Fraction;
 pub use items::{List, Text};
 pub use lowest::reduce;

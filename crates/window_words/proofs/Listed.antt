@@ -1,5 +1,5 @@
 -- Lists that grow by one, and the lists of accepted entries.
-use Rattle.std.proofs.Common.{◌≡◌, ℕ, zero, suc, ◌+◌, ◌-◌, ◌*◌, ◌<◌, ◌≤◌, Bool, true, false, List, [], ◌∷◌, ◌++◌, length, get_or, set, refl, subst, arith, length-append, nat_lt, nat_eq, if◌then◌else◌}
+use Rattle.std.proofs.Common.{◌≡◌, ℕ, zero, suc, ◌+◌, ◌-◌, ◌*◌, ◌<◌, ◌≤◌, Bool, true, false, List, [], ◌∷◌, ◌++◌, length, get_or, replicate, set, refl, subst, arith, length-append, nat_lt, nat_eq, if◌then◌else◌}
 use Rattle.std.specs.Prelude.{All}
 use Rattle.std.specs.List.{list_any, Contains}
 use Rattle.std.proofs.lemmas.List.Elements.{All-append, All-cons, All-get_or, All-nil, Contains-get_or}
@@ -33,6 +33,16 @@ chosen : (P : ℕ → Type 0) (k : ℕ) (ks : List ℕ) (b c : Bool) → All P k
 chosen P k ks true c all p = All-cons P k [] p (All-nil P)
 chosen P k ks false true all p = all
 chosen P k ks false false all p = All-append P ks (k ∷ []) all (All-cons P k [] p (All-nil P))
+
+-- a list of one value has it at each place, and past the end as well
+pub same_all : {A : Type 0} (d : A) (n i : ℕ) → get_or (replicate n d) i d ≡ d
+same_all d zero i = refl
+same_all d (suc n) zero = refl
+same_all d (suc n) (suc i) = same_all d n i
+
+-- what follows from two facts of each item
+pub both_all : {A : Type 0} (P Q R : A → Type 0) → ((x : A) → P x → Q x → R x) → (xs : List A) → All P xs → All Q xs → All R xs
+both_all P Q R f xs p q = λ k d l. f (get_or xs k d) (p k d l) (q k d l)
 
 -- what holds of all accepted entries and of one more holds after it is accepted
 pub each_accept : (P : ℕ → ℕ → Type 0) (leaders w k : ℕ) (acc : List (List ℕ)) → ((j : ℕ) → All (P j) (get_or acc j [])) → P w k → (j : ℕ) → All (P j) (get_or (accept leaders w k acc) j [])

@@ -21,10 +21,10 @@ use Rattle.window_words.specs.declared.views.Reading.{Reading}
 use Rattle.window_words.specs.declared.views.Call.TheVariants.{Begin, End}
 use Rattle.window_words.proofs.WindowPlaces.{start_tells}
 use Rattle.window_words.proofs.Stamps.{whole_tells}
-use Rattle.window_words.proofs.Listed.{push_at, push_before, length_push, each_accept, has_last}
+use Rattle.window_words.proofs.Listed.{both_all, each_accept, has_last, length_push, push_at, push_before}
 use Rattle.window_words.proofs.Keeping.{after_load}
 
-abbrev pub some_or : {A : Type 0} → A → Option A → A
+abbrev some_or : {A : Type 0} → A → Option A → A
 some_or d None = d
 some_or d (Some x) = x
 
@@ -35,16 +35,12 @@ same_items [] (y ∷ ys) e at = absurd (omega arith)
 same_items (x ∷ xs) [] e at = absurd (omega arith)
 same_items (x ∷ xs) (y ∷ ys) e at = λ j. at 0 (omega arith) j ∷ same_items xs ys (omega arith) (λ i l. at (suc i) (omega arith)) j
 
--- what follows from two facts of each item
-both_all : {A : Type 0} (P Q R : A → Type 0) → ((x : A) → P x → Q x → R x) → (xs : List A) → All P xs → All Q xs → All R xs
-both_all P Q R f xs p q = λ k d l. f (get_or xs k d) (p k d l) (q k d l)
-
 -- the end of a reading changes no account
 owned_either : (leaders n : ℕ) (v : View) (r : Reading) (b : Bool) → (if b then with_accepted v (accept leaders r.window (n / 2) v.accepted) else with_reading v None).owned ≡ v.owned
 owned_either leaders n v r true = refl
 owned_either leaders n v r false = refl
 
-owned_stays : (leaders n : ℕ) (v : View) (o : Option Reading) → (ended leaders n v o).owned ≡ v.owned
+pub owned_stays : (leaders n : ℕ) (v : View) (o : Option Reading) → (ended leaders n v o).owned ≡ v.owned
 owned_stays leaders n v None = refl
 owned_stays leaders n v (Some r) = owned_either leaders n v r (is_whole r.first n)
 

@@ -4,15 +4,14 @@ use Rattle.std.specs.Prelude.{All, Option, Some, None, max}
 use Rattle.std.specs.List.{list_any, range_with_len, Contains}
 use Rattle.std.proofs.lemmas.List.Elements.{All-append, All-cons, All-nil, All-weaker}
 use mathlib.Core.Option.{some, some-injective, some-ne-none}
-use mathlib.Core.Logic.{dite}
-use native.Mathlib.Decide.{ℕ_discrete}
 use lib.ListN.{get_elem?}
+use Rattle.window_words.proofs.Listed.{both_all}
 use Rattle.atomic_table.specs.Table.{State, Splits, Joins}
-use Rattle.atomic_table.proofs.Lists.{at_set, set_else}
+use Rattle.atomic_table.proofs.Lists.{set_else}
 use Rattle.window_words.specs.Views.{add_once, last_of}
 use Rattle.window_words.specs.Conditions.{HasClosed}
-use Rattle.window_words.specs.Rule.{start, stamp, PartStands, Account, Knows, Windows}
-use Rattle.window_words.specs.Seating.{no_view, owner_view, one_more_dealt, next_owner, add_all, accepted_of_both, accepted_by_both, united, deals, dealt_out, joined, leaders_of, nobody}
+use Rattle.window_words.specs.Rule.{stamp, Account, Knows, Windows}
+use Rattle.window_words.specs.Seating.{no_view, one_more_dealt, next_owner, add_all, accepted_of_both, accepted_by_both, united, deals, dealt_out, joined, leaders_of, nobody}
 use Rattle.window_words.specs.declared.views.View.{View}
 use Rattle.window_words.specs.declared.views.Known.{Known}
 use Rattle.window_words.specs.declared.views.Owned.{Owned}
@@ -52,10 +51,6 @@ none_accepted P zero i = All-nil P
 none_accepted P (suc n) zero = All-nil P
 none_accepted P (suc n) (suc i) = none_accepted P n i
 
--- what follows from two facts of each item
-both_hold : {A : Type 0} (P Q R : A → Type 0) → ((x : A) → P x → Q x → R x) → (xs : List A) → All P xs → All Q xs → All R xs
-both_hold P Q R f xs p q = λ k d l. f (get_or xs k d) (p k d l) (q k d l)
-
 -- a fact on one list of those made by number
 made_at : (P : ℕ → Type 0) (f : ℕ → List ℕ) (a n w : ℕ) → ((x : ℕ) → x ≡ a + w → All P (f x)) → All P (get_or (map f (range_with_len a n)) w [])
 made_at P f a zero w h = All-nil P
@@ -76,7 +71,7 @@ either_list P true false ks js p q = p
 either_list P false c ks js p q = all_added P js ks q p
 
 -- what holds of the entries of a window that two seats accepted holds of those that they accepted together
-pub both_accepted : (P : ℕ → Type 0) (leaders : ℕ) (kss jss : List (List ℕ)) (w : ℕ) → All P (get_or kss w []) → All P (get_or jss w []) → All P (get_or (accepted_by_both leaders kss jss) w [])
+both_accepted : (P : ℕ → Type 0) (leaders : ℕ) (kss jss : List (List ℕ)) (w : ℕ) → All P (get_or kss w []) → All P (get_or jss w []) → All P (get_or (accepted_by_both leaders kss jss) w [])
 both_accepted P leaders kss jss w p q = made_at P (λ x. accepted_of_both leaders x (get_or kss x []) (get_or jss x [])) 0 (max (length kss) (length jss)) w
     (λ x e. let same : x ≡ w = omega arith in subst (λ (z : ℕ). All P (accepted_of_both leaders z (get_or kss z []) (get_or jss z []))) (sym same)
     (either_list P (nat_lt w leaders) (nat_lt (last_of (get_or kss w [])) (last_of (get_or jss w []))) (get_or kss w []) (get_or jss w []) p q))
@@ -173,7 +168,7 @@ module _ {M : Type 0} (entry : ℕ → ℕ → List ℕ) (wide : ℕ → ℕ) (c
     untouched j d e = let k = each_old j d e in let m = mine.1 in let unused : stamp wide s.words r.dealt ≡ 0 = r.new r.dealt (omega arith) (omega arith) in
         let unused' : stamp wide s.words v.view.dealt ≡ 0 = ap (stamp wide s.words) m ∙ unused in
         All-cons (HasClosed d.view) record { window = v.view.dealt; closed = [] } []
-        (both_hold (λ n. 2 * n ≤ stamp wide s.words v.view.dealt) (λ n. 1 ≤ n) (λ n. (1 ≤ n) × Contains [] n) (λ n low pos. absurd (omega arith)) (get_or d.view.accepted v.view.dealt []) (k.accepted v.view.dealt) (k.from_one v.view.dealt))
+        (both_all (λ n. 2 * n ≤ stamp wide s.words v.view.dealt) (λ n. 1 ≤ n) (λ n. (1 ≤ n) × Contains [] n) (λ n low pos. absurd (omega arith)) (get_or d.view.accepted v.view.dealt []) (k.accepted v.view.dealt) (k.from_one v.view.dealt))
         (All-nil (HasClosed d.view))
 
     knows_nothing : (d : Known M) → Listed (dealt_out v) d
@@ -251,7 +246,7 @@ module _ {M : Type 0} (entry : ℕ → ℕ → List ℕ) (wide : ℕ → ℕ) (c
 
     -- every owner has closed what both accepted, and both have closed what anyone accepted of their windows
     both_listed : (j : ℕ) (d : Known M) → get_elem? s.views j ≡ some d → All (HasClosed (united leaders v.view u.view)) d.view.owned
-    both_listed j d e = both_hold (HasClosed v.view) (HasClosed u.view) (HasClosed (united leaders v.view u.view))
+    both_listed j d e = both_all (HasClosed v.view) (HasClosed u.view) (HasClosed (united leaders v.view u.view))
         (λ a p q. both_accepted (λ n. (1 ≤ n) × Contains a.closed n) leaders v.view.accepted u.view.accepted a.window p q) d.view.owned (r.listed id j v d at e) (r.listed other j u d at_u e)
 
     listed_both : (P : Owned → Type 0) → All P v.view.owned → All P u.view.owned → All P w.view.owned

@@ -1,11 +1,12 @@
 use Rattle.std.proofs.Common.{arith, sym, ap, subst, ◌∙◌, ◌≡◌, ◌==◌, ◌&&◌, ◌+◌, ◌<◌, ◌^◌, ℕ, List, length, take, get_or}
 use Rattle.std.proofs.Math.Seq.{take-length}
 use Rattle.std.specs.List.{list_any}
+use Rattle.base_words.proofs.Booleans.{and_false}
 use Rattle.tree_core.specs.Nodes.{scenarios_at}
 use Rattle.sp_model.specs.Problems.{scenarios}
 use Rattle.put_words.specs.NodeSums.{node_for}
 use Rattle.hedging.specs.Tables.{gain_of}
-use Rattle.hedging.proofs.Filling.{and_false, gained_as, gained_on, member_node, none_gained, still_table}
+use Rattle.hedging.proofs.Filling.{gained_as, gained_on, member_node, none_gained, still_table}
 use Rattle.hedging.proofs.Fitting.{node_members}
 use Rattle.tree_core.proofs.Listing.{ones}
 use Rattle.hedging.proofs.Places.{both_due, member_due}

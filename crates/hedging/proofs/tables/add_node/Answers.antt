@@ -2,9 +2,10 @@ use Rattle.std.proofs.Common.{rules, arith, sym, ap, ◌∙◌, ◌==◌, ◌&&�
 use Rattle.std.proofs.lemmas.Int.{to_z-of_z}
 use Rattle.std.specs.Int.{w128}
 use Rattle.base_words.proofs.NumberTests.{test_from_less, test_from_not_less}
+use Rattle.base_words.proofs.Booleans.{and_false, and_true}
 use Rattle.put_words.specs.NodeSums.{node_for, weight_of}
 use Rattle.hedging.specs.Tables.{gain_of}
-use Rattle.hedging.proofs.Filling.{and_false, and_true, gained_as, gained_on, none_gained, still_table}
+use Rattle.hedging.proofs.Filling.{gained_as, gained_on, none_gained, still_table}
 use Rattle.hedging.proofs.Places.{both_due, next_is_due}
 use Rattle.hedging.proofs.tables.add_node.Goals as goal
 

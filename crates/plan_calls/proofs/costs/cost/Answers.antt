@@ -3,7 +3,8 @@ use Rattle.std.proofs.lemmas.Int.{to_z-of_z}
 use Rattle.std.specs.Int.{w128}
 use Rattle.base_words.specs.Sums.{sum_below}
 use Rattle.sp_model.specs.Problems.{scenarios}
-use Rattle.plan_calls.proofs.PlanValues.{values_fit, cost_next, point_value}
+use Rattle.plan_calls.proofs.PlanValues.{values_fit, point_value}
+use Rattle.base_words.proofs.SumBounds.{sum_below-more}
 use Rattle.plan_calls.proofs.costs.cost.Goals as goal
 
 pub value-requires-clause-inside : goal.value-requires-clause-inside
@@ -21,7 +22,7 @@ plus-sum-requires c =
     let there : k < scenarios run = omega (arith, c.loop-scenario-test.true, c.len-scenario-end.ensures) in
     let fv : FitsSigned w128 c.value.result = search rules in
     let own = rw c.point.ensures at c.value.ensures in
-    let next = cost_next (point_value run plan) (to_z w128 c.loop-scenario.sum-bits) c.value.result k c.loop-scenario.invariant own in
+    let next = sum_below-more (to_z w128 c.loop-scenario.sum-bits) c.value.result k (point_value run plan) c.loop-scenario.invariant own in
     simp to_z-of_z (rw next (values_fit run plan (k + 1) c.requires (omega (arith, there))))
 
 pub loop-scenario-preserved : goal.loop-scenario-preserved
@@ -33,7 +34,7 @@ loop-scenario-preserved c =
     let fp : FitsSigned w128 c.plus-sum.result = search rules in
     let own = rw c.point.ensures at c.value.ensures in
     let whole : c.plus-sum.result ≡ (to_z w128 c.loop-scenario.sum-bits +ℤ c.value.result) = simp to_z-of_z at c.plus-sum.ensures in
-    let next = cost_next (point_value run plan) (to_z w128 c.loop-scenario.sum-bits) c.value.result k c.loop-scenario.invariant own in
+    let next = sum_below-more (to_z w128 c.loop-scenario.sum-bits) c.value.result k (point_value run plan) c.loop-scenario.invariant own in
     simp to_z-of_z (whole ∙ next)
 
 pub returns : goal.returns

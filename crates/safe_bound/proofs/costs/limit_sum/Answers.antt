@@ -4,7 +4,7 @@ use Rattle.std.specs.Int.{w128}
 use Rattle.boxed_problem.specs.Data.{problem_of}
 use Rattle.base_words.specs.Sums.{number_at}
 use Rattle.safe_bound.specs.PriceBound.{limit_price}
-use Rattle.safe_bound.proofs.KeyedSums.{sum_next}
+use Rattle.base_words.proofs.SumBounds.{sum_below-more}
 use Rattle.safe_bound.proofs.PriceSizes.{limit_price-fits, limit_sum-fits}
 use Rattle.safe_bound.proofs.costs.limit_sum.Goals as goal
 
@@ -36,7 +36,7 @@ overflow_add-sum c =
     let paid = simp to_z-of_z at c.paid_limit.ensures in
     let part : (price *ℤ c.paid_limit.result) ≡ limit_price b y i = ap (λ z. price *ℤ z) paid ∙ rw (c.as_slice-values.ensures, c.as_slice-rows.ensures) refl in
     let one' = subst (λ z. FitsSigned w128 z) (sym part) (limit_price-fits b y i places short c.requires.size) in
-    let next = sum_next (to_z w128 c.loop-i.sum-bits) (price *ℤ c.paid_limit.result) i (limit_price b y) c.loop-i.invariant part in
+    let next = sum_below-more (to_z w128 c.loop-i.sum-bits) (price *ℤ c.paid_limit.result) i (limit_price b y) c.loop-i.invariant part in
     let all = limit_sum-fits b y (i + 1) places (omega arith) c.requires.size in
     simp to_z-of_z (subst (λ z. FitsSigned w128 z) (sym next) all)
 
@@ -53,7 +53,7 @@ loop-i-preserved c =
     let paid = simp to_z-of_z at c.paid_limit.ensures in
     let part : (price *ℤ c.paid_limit.result) ≡ limit_price b y i = ap (λ z. price *ℤ z) paid ∙ rw (c.as_slice-values.ensures, c.as_slice-rows.ensures) refl in
     let one' = subst (λ z. FitsSigned w128 z) (sym part) (limit_price-fits b y i places short c.requires.size) in
-    let next = sum_next (to_z w128 c.loop-i.sum-bits) (price *ℤ c.paid_limit.result) i (limit_price b y) c.loop-i.invariant part in
+    let next = sum_below-more (to_z w128 c.loop-i.sum-bits) (price *ℤ c.paid_limit.result) i (limit_price b y) c.loop-i.invariant part in
     let all = limit_sum-fits b y (i + 1) places (omega arith) c.requires.size in
     let both = subst (λ z. FitsSigned w128 z) (sym next) all in
     simp to_z-of_z next

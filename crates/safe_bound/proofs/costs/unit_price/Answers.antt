@@ -5,7 +5,7 @@ use Rattle.boxed_problem.specs.Data.{problem_of}
 use Rattle.boxed_problem.specs.BoxedFacts.{no_entry}
 use Rattle.base_words.specs.Sums.{number_at}
 use Rattle.safe_bound.specs.PriceBound.{entry_price}
-use Rattle.safe_bound.proofs.KeyedSums.{list_sum}
+use Rattle.base_words.specs.ListSums.{sum_z}
 use Rattle.safe_bound.proofs.PriceSizes.{entry_fits, unit_fits_upto}
 use Rattle.safe_bound.proofs.RunLaws.{entry_here, price_before, price_upto}
 use Rattle.base_words.proofs.SumBounds.{fold_next}
@@ -69,5 +69,5 @@ returns c =
     let r = c.requires.run in
     let stop : c.loop-k.k ≡ c.args.end = omega (arith, c.loop-k-test.false, c.loop-k.auto.k-end r.order) in
     c.loop-k.invariant
-    ∙ (ap (λ k. list_sum (entry_price c.args.prices.now c.args.column) (take k c.args.problem.now.entries)) stop
+    ∙ (ap (λ k. sum_z (entry_price c.args.prices.now c.args.column) (take k c.args.problem.now.entries)) stop
     ∙ price_upto (problem_of c.args.problem.now) c.args.prices.now c.args.column c.args.first c.args.end r)

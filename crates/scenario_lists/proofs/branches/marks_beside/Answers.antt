@@ -1,6 +1,6 @@
 use Rattle.std.proofs.Common.{arith, ◌+◌}
+use Rattle.base_words.proofs.Made.{next_made}
 use Rattle.scenario_lists.specs.ScenarioList.{mark_beside}
-use Rattle.scenario_lists.proofs.Rows.{next_made}
 use Rattle.scenario_lists.proofs.branches.marks_beside.Goals as goal
 
 pub mark_beside-requires-clause-late : goal.mark_beside-requires-clause-late

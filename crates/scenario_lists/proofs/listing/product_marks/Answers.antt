@@ -1,7 +1,8 @@
 use Rattle.std.proofs.Common.{arith}
+use Rattle.base_words.proofs.Made.{next_made}
 use Rattle.scenario_lists.specs.Combinations.{choices_of, mark_in}
 use Rattle.scenario_lists.specs.ScenarioList.{product_marks_at}
-use Rattle.scenario_lists.proofs.Rows.{next_made, rows_push}
+use Rattle.scenario_lists.proofs.Rows.{rows_push}
 use Rattle.scenario_lists.proofs.listing.product_marks.Goals as goal
 
 pub loop-number-preserved : goal.loop-number-preserved

@@ -1,8 +1,8 @@
 use Rattle.std.proofs.Common.{arith, ap, ℕ}
+use Rattle.base_words.proofs.Made.{next_made}
 use Rattle.scenario_lists.specs.Live.{entry_count, live_scenario}
 use Rattle.scenario_lists.specs.ScenarioList.{product_scenario_at}
 use Rattle.scenario_lists.specs.declared.data.ScenarioData.{ScenarioData}
-use Rattle.scenario_lists.proofs.Rows.{next_made}
 use Rattle.scenario_lists.proofs.Staying.{count_push, product_more}
 use Rattle.scenario_lists.proofs.listing.product_scenarios.Goals as goal
 

@@ -1,6 +1,6 @@
 use Rattle.std.proofs.Common.{arith, ◌+◌}
+use Rattle.base_words.proofs.Made.{next_made}
 use Rattle.scenario_lists.specs.Combinations.{mark_in}
-use Rattle.scenario_lists.proofs.Rows.{next_made}
 use Rattle.scenario_lists.proofs.marking.marks.Goals as goal
 
 pub loop-before-preserved : goal.loop-before-preserved

@@ -1,7 +1,6 @@
 use Rattle.std.proofs.Common.{ap, sym, ◌∙◌, cond, [], ◌∷◌, ◌++◌}
 use Rattle.std.specs.Str.{bytes_eq}
-use Rattle.line_core.proofs.Numbered.{any_none}
-use Rattle.stoch_lines.proofs.Positions.{any_some}
+use Rattle.base_words.proofs.Positions.{any_none, any_some}
 use Rattle.stoch_lines.proofs.blocks.add_name.Goals as goal
 
 pub returns-in-Some : goal.returns-in-Some

@@ -1,6 +1,6 @@
 use Rattle.std.proofs.Common.{◌+◌, ◌++◌, arith, sym, ap, ◌∙◌, length, map}
+use Rattle.base_words.proofs.ListSumsByNumber.{flat_map-next}
 use Rattle.tree_core.specs.Marks.{node, nodes_at}
-use Rattle.tree_core.proofs.Stages.{stage_next}
 use Rattle.tree_core.proofs.TreeLaws.{tree_few, whole_tree}
 use Rattle.tree_core.proofs.building.build.Goals as goal
 
@@ -10,7 +10,7 @@ loop-before-preserved c =
     c.in_ok-append.ensures.nodes
     ∙ ap (λ gs. c.loop-before.nodes ++ map (node stage) gs) c.in_ok-groups.ensures.groups
     ∙ ap (λ ns. ns ++ nodes_at c.args.owners.now stage) c.loop-before.invariant
-    ∙ sym (stage_next (nodes_at c.args.owners.now) c.loop-before.before)
+    ∙ sym (flat_map-next (nodes_at c.args.owners.now) c.loop-before.before)
 
 pub returns-clause-tree : goal.returns-clause-tree
 returns-clause-tree c = whole_tree c.args.stages c.loop-before.before c.args.owners.now c.loop-before.nodes (omega arith) c.loop-before.invariant

@@ -1,4 +1,4 @@
-use Rattle.std.proofs.Common.{ℕ, ◌+◌, ◌*◌, ◌<◌, ◌≤◌, ◌^◌, get_or, length, refl, arith}
+use Rattle.std.proofs.Common.{◌<◌, length, refl, arith}
 use Rattle.table_board.proofs.Sitting.{begin_index, begin_steps, begin_keeps, begin_tells}
 use Rattle.table_board.proofs.seat.TableSeatBoard.begin_read.Goals as goal
 

@@ -1,4 +1,4 @@
-use Rattle.std.proofs.Common.{ℕ, ◌+◌, ◌*◌, ◌<◌, ◌≤◌, ◌^◌, get_or, length, refl, arith}
+use Rattle.std.proofs.Common.{◌*◌, ◌<◌, ◌^◌, length, refl, arith}
 use Rattle.table_board.proofs.Sitting.{close_index, close_fits, close_steps, close_keeps, close_tells}
 use Rattle.table_board.proofs.seat.TableSeatBoard.close_put.Goals as goal
 

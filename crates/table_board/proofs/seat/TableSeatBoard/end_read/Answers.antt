@@ -1,4 +1,4 @@
-use Rattle.std.proofs.Common.{ℕ, ◌+◌, ◌*◌, ◌<◌, ◌≤◌, ◌^◌, get_or, length, refl, arith}
+use Rattle.std.proofs.Common.{◌<◌, length, refl, arith}
 use Rattle.table_board.proofs.Sitting.{end_index, end_steps, end_keeps, end_tells}
 use Rattle.table_board.proofs.seat.TableSeatBoard.end_read.Goals as goal
 

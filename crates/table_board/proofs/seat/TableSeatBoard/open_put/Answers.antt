@@ -1,4 +1,4 @@
-use Rattle.std.proofs.Common.{ℕ, ◌+◌, ◌*◌, ◌<◌, ◌≤◌, ◌^◌, get_or, length, refl, arith}
+use Rattle.std.proofs.Common.{◌*◌, ◌<◌, ◌≤◌, ◌^◌, length, refl, arith}
 use Rattle.table_board.proofs.Sitting.{open_index, open_fits, open_steps, open_keeps, open_tells}
 use Rattle.table_board.proofs.seat.TableSeatBoard.open_put.Goals as goal
 

@@ -1,4 +1,4 @@
-use Rattle.std.proofs.Common.{ℕ, ◌+◌, ◌*◌, ◌<◌, ◌≤◌, ◌^◌, get_or, length, refl, arith}
+use Rattle.std.proofs.Common.{◌+◌, ◌<◌, ◌^◌, get_or, length, refl, arith}
 use Rattle.table_board.proofs.Sitting.{put_index, put_fits, put_steps, put_keeps, put_tells}
 use Rattle.table_board.proofs.seat.TableSeatBoard.put_word.Goals as goal
 

@@ -1,4 +1,4 @@
-use Rattle.std.proofs.Common.{ℕ, ◌+◌, ◌*◌, ◌<◌, ◌≤◌, ◌^◌, get_or, length, refl, arith}
+use Rattle.std.proofs.Common.{◌+◌, ◌<◌, ◌^◌, get_or, length, refl, arith}
 use Rattle.table_board.proofs.Sitting.{read_index, read_fits, read_steps, read_keeps, read_tells}
 use Rattle.table_board.proofs.seat.TableSeatBoard.read_word.Goals as goal
 

@@ -1,4 +1,4 @@
-use Rattle.std.proofs.Common.{ℕ, ◌<◌, ◌^◌, ◌∙◌, length, arith}
+use Rattle.std.proofs.Common.{◌<◌, ◌^◌, ◌∙◌, length, arith}
 use Rattle.table_board.proofs.Tabling.{fresh_rule, fresh_stands}
 use Rattle.table_board.proofs.table.TableBoard.new.Goals as goal
 

@@ -1,6 +1,7 @@
 use Rattle.std.proofs.Common.{arith, sym, ap, ◌∙◌}
+use Rattle.base_words.proofs.Positions.{place_at}
 use Rattle.tree_core.specs.Nodes.{holds, no_node, node_number}
-use Rattle.tree_core.proofs.Listing.{no_place, place_at}
+use Rattle.tree_core.proofs.Listing.{no_place}
 use Rattle.tree_core.proofs.tree.Tree.find_node.Goals as goal
 
 pub returns-then-holds : goal.returns-then-holds

@@ -1,10 +1,11 @@
 ghost use Rattle.std.specs.Prelude.{◌≡◌, ◌+◌, IfOk, replicate};
-ghost use Rattle.table_board.specs.Tables.{ArePlaces};
+ghost use Rattle.window_places.specs.Places.{ArePlaces};
 
 use std::alloc::{AllocError, Global};
 use window_words::Meaning;
 
-/// Where the windows lie.
+/// Where the windows lie: one behind the other, each with its stamp first, and the
+/// stop word before them all.
 #[derive(Drop)]
 pub struct Places {
     /// The place of each window's stamp.
@@ -30,7 +31,8 @@ fn past(start: usize, width: usize) -> Result<usize, AllocError>
     end.checked_add(1).ok_or(AllocError)
 }
 
-/// Where the windows of a meaning lie.
+/// Where the windows of a meaning lie. It fails where memory is refused, or where the
+/// words are more than a `usize` can number.
 pub fn places_of<M: Meaning>(alloc: Global, of: &M) -> Result<Places, AllocError>
     ensures { IfOk result (λ places. ArePlaces (M.wide of.now) (M.count of.now)
         places.starts.items places.words) }

@@ -7,7 +7,7 @@ use Rattle.smps_words.specs.Outcomes.{all_told}
 
 module _ {L X : Type 0} (tells : List L → L → List X) (d : L) (x : X) where
   -- the line at some place tells it
-  abbrev Told : List L → List L → Type 0
+  abbrev pub Told : List L → List L → Type 0
   Told before rest = (n : ℕ) × (n < length rest) × Contains (tells (before ++ take n rest) (get_or rest n d)) x
 
   pub told_at : (before rest : List L) → Contains (all_told tells before rest) x → Told before rest

@@ -1,7 +1,7 @@
 use Rattle.std.proofs.Common.{◌≡◌, ℕ, subst, arith}
-use Rattle.table_board.specs.Tables.{ArePlaces}
-use Rattle.table_board.proofs.Tabling.{places_more, places_none}
-use Rattle.table_board.proofs.places.places_of.Goals as goal
+use Rattle.window_places.specs.Places.{ArePlaces}
+use Rattle.window_places.proofs.Placing.{places_more, places_none}
+use Rattle.window_places.proofs.places.places_of.Goals as goal
 
 pub loop-window-init : goal.loop-window-init
 loop-window-init g c = places_none (g.M.Meaning.wide c.args.of.now) _ c.new-starts.ensures.items

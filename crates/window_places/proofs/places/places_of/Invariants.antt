@@ -1,5 +1,5 @@
-use Rattle.table_board.specs.Tables.{ArePlaces}
-use Rattle.table_board.proofs.places.places_of.Given as goal
+use Rattle.window_places.specs.Places.{ArePlaces}
+use Rattle.window_places.proofs.places.places_of.Given as goal
 
 abbrev pub invariant-loop-window : goal.invariant-loop-window
 invariant-loop-window g l = ArePlaces (g.M.Meaning.wide l.of) l.window l.starts.items l.next

@@ -1,0 +1,2 @@
+pub mod Places
+pub use Rattle.window_words.specs.Rule
