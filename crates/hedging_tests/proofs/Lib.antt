@@ -1,1 +1,3 @@
 mod FirstPuts
+mod Forwards
+mod PointLists

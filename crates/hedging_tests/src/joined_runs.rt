@@ -1,13 +1,14 @@
 //! The run of three texts.
 
-ghost use Rattle.std.specs.Prelude.{pos, ◌≤ℤ◌};
+ghost use Rattle.std.specs.Prelude.{pos, ◌≤◌, ◌≤ℤ◌};
 ghost use Rattle.sp_model.specs.RunFacts.{OptionFacts};
+ghost use Rattle.sp_model.specs.declared.limits.TheConstants.{MAX_BUDGET};
 
 use smps_core::read_core;
 use smps_join::join;
 use smps_stoch::read_stoch;
 use smps_time::read_time;
-use sp_model::{MAX_ITERATIONS, MAX_RHO, MAX_SCALE, Options, Run};
+use sp_model::{MAX_BUDGET, MAX_ITERATIONS, MAX_RHO, MAX_SCALE, Options, Run};
 use std::alloc::Global;
 
 // The number, or the nearest one from 1 to `most`.
@@ -25,9 +26,23 @@ fn from_one(number: i128, most: i128) -> i128
     }
 }
 
-/// Options with a scale, a penalty and a number of further puts, each cut to its
-/// range.
-pub fn options(scale: i128, rho: i128, iterations: u64) -> Options
+// A budget, or the nearest one in its range.
+fn some_budget(number: u64) -> u64
+    ensures least { 1 ≤ result }
+    ensures most { result ≤ MAX_BUDGET }
+{
+    if number < 1 {
+        1
+    } else if MAX_BUDGET < number {
+        MAX_BUDGET
+    } else {
+        number
+    }
+}
+
+/// Options with a scale, a penalty, a number of further puts and a budget of boxes,
+/// each cut to its range.
+pub fn options(scale: i128, rho: i128, iterations: u64, budget: u64) -> Options
     ensures { OptionFacts result }
 {
     Options {
@@ -40,7 +55,7 @@ pub fn options(scale: i128, rho: i128, iterations: u64) -> Options
         candidates: 1,
         mean: false,
         gap: 0,
-        budget: 1000000,
+        budget: some_budget(budget),
         missing: 1000000,
     }
 }

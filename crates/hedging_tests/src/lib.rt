@@ -2,10 +2,18 @@
 #![tactic(auto)]
 
 #[cfg(test)]
+mod empty_stages;
+#[cfg(test)]
 mod joined_runs;
 #[cfg(test)]
 mod multiplying;
 #[cfg(test)]
+mod plans;
+#[cfg(test)]
 mod putting;
+#[cfg(test)]
+mod refusing;
+#[cfg(test)]
+mod skipping;
 #[cfg(test)]
 mod texts;

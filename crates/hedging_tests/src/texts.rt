@@ -1,8 +1,8 @@
 //! The files of the tests that stand nowhere else.
 
-/// A need that no plan meets in the second scenario.
+/// Needs that no plan meets in the second and the third scenario.
 pub const MUCH_STOCH: &str =
-    "STOCH SMALL\nSCENARIOS DISCRETE\n SC LOW ROOT 0.5 T2\n RHS NEED 2\n SC HIGH ROOT 0.5 T2\n RHS NEED 21\nENDATA\n";
+    "STOCH SMALL\nSCENARIOS DISCRETE\n SC LOW ROOT 0.5 T2\n RHS NEED 2\n SC MUCH ROOT 0.25 T2\n RHS NEED 21\n SC MORE ROOT 0.25 T2\n RHS NEED 22\nENDATA\n";
 
 /// Three scenarios of weight 1 that share the node of the first stage.
 pub const THREE_STOCH: &str =
@@ -12,7 +12,15 @@ pub const THREE_STOCH: &str =
 pub const STAGES_CORE: &str =
     "NAME STAGES\nROWS\n N COST\n G NEED\n G MORE\nCOLUMNS\n X COST 1 NEED 1\n X MORE 1\n Y COST 2 NEED 1\n Y MORE 1\n Z COST 5 MORE 1\nRHS\n RHS NEED 1 MORE 2\nBOUNDS\n UP BND X 6\n UP BND Y 6\n UP BND Z 9\nENDATA\n";
 
+/// The same with a second stage whose only column is 0.
+pub const IDLE_CORE: &str =
+    "NAME STAGES\nROWS\n N COST\n G NEED\n G MORE\nCOLUMNS\n X COST 1 NEED 1\n X MORE 1\n Y COST 2 NEED 1\n Y MORE 1\n Z COST 5 MORE 1\nRHS\n RHS NEED 1 MORE 2\nBOUNDS\n UP BND X 6\n FX BND Y 0\n UP BND Z 9\nENDATA\n";
+
 pub const STAGES_TIME: &str = "TIME STAGES\nPERIODS\n X COST T1\n Y NEED T2\n Z MORE T3\nENDATA\n";
 
 pub const STAGES_STOCH: &str =
     "STOCH STAGES\nSCENARIOS DISCRETE\n SC A ROOT 0.25 T2\n RHS NEED 2 MORE 3\n SC B A 0.25 T3\n RHS MORE 8\n SC C ROOT 0.5 T2\n RHS NEED 4 MORE 5\nENDATA\n";
+
+/// Another entry, cost and need in the second scenario.
+pub const CELL_STOCH: &str =
+    "STOCH SMALL\nSCENARIOS DISCRETE\n SC LOW ROOT 0.5 T2\n RHS NEED 2\n SC HIGH ROOT 0.5 T2\n Y COST 4 NEED 2\n RHS NEED 6\nENDATA\n";

@@ -1,2 +1,3 @@
-mod Phasing
 mod Benches
+mod Phasing
+mod Ranking

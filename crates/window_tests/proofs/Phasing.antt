@@ -135,11 +135,12 @@ leads_on seat w k b b' h stays = record {
 width_on : (seat width : ℕ) (b b' : PlainValue Tiny) → width ≡ b.0.width → StaysBut seat b b' → width ≡ b'.0.width
 width_on seat width b b' e stays = e ∙ ap (λ (t : Tiny). t.width) (sym stays.meaning)
 
+-- where the owner of a window stands among the seats of a fresh board
+pub fresh_owner : (count w : ℕ) → w < count → get_or (fresh_views count) (w + 1) no_view ≡ owner_view count w
+fresh_owner count w below = let one : w + 1 ≡ suc w = omega arith in
+    ap (λ (z : ℕ). get_or (fresh_views count) z no_view) one ∙ get_or-map-range_with_len (owner_view count) 0 count w w no_view below (omega arith)
+
 -- the owner of a window of a fresh board has put nothing
 pub fresh_put : (t : Tiny) (b : PlainValue Tiny) (w : ℕ) → b ≡ fresh_board wide (λ (x : Tiny). x.windows) t → w < t.windows → HasPut w 0 (viewed b (w + 1))
 fresh_put t b w e below = subst (λ (z : PlainValue Tiny). HasPut w 0 (viewed z (w + 1))) (sym e)
     (subst (HasPut w 0) (sym (fresh_owner t.windows w below)) ([], refl, omega arith, refl))
-  where
-    fresh_owner : (count w : ℕ) → w < count → get_or (fresh_views count) (w + 1) no_view ≡ owner_view count w
-    fresh_owner count w below = let one : w + 1 ≡ suc w = omega arith in
-        ap (λ (z : ℕ). get_or (fresh_views count) z no_view) one ∙ get_or-map-range_with_len (owner_view count) 0 count w w no_view below (omega arith)

@@ -47,17 +47,18 @@ entry_of t w k = replicate t.width k
 abbrev pub IsReadAt : PlainValue Tiny → Reader → Type 0
 IsReadAt b s = ReadsFor (entry_of b.0) (λ w. b.0.width) b.0.windows (viewed b 0) s
 
--- two leaders' windows of one width, up to three puts of each, and a reader of both: each writer
--- has closed so many entries, and made so many steps of the next
+-- one or two leaders' windows of one width, and a reader of these: each writer has closed so many
+-- entries up to the last, and made so many steps of the next
 pub record IsBench (b : PlainValue Tiny) (s : Reader) (lasts steps : List ℕ)
-    (width : ℕ) : Type 0 where
-  pub windows : b.0.windows ≡ 2
-  pub leaders : b.0.leaders ≡ 2
+    (ranks width most : ℕ) : Type 0 where
+  pub leaders : b.0.leaders ≡ ranks
+  pub few : ranks ≤ 2
   pub wide : width ≡ b.0.width
   pub small : width < 2 ^ 32
-  pub most : b.0.most ≡ 3
-  pub ranks : length s.parts ≡ 2
-  pub made : (w : ℕ) → w < 2 → (slice_index lasts w ≤ 3) × (slice_index steps w < width + 2)
-  pub writes : (w : ℕ) → w < 2
+  pub top : most ≡ b.0.most
+  pub parts : length s.parts ≡ ranks
+  pub made : (w : ℕ) → w < ranks
+      → (slice_index lasts w ≤ most) × (slice_index steps w < width + 2)
+  pub writes : (w : ℕ) → w < ranks
       → WritesAt width w (slice_index lasts w) (slice_index steps w) (viewed b (w + 1))
   pub reads : IsReadAt b s

@@ -1,14 +1,14 @@
-ghost use Rattle.std.specs.Prelude.{◌≡◌, ◌<◌, ◌+◌, ◌^◌};
+ghost use Rattle.std.specs.Prelude.{◌≡◌, ◌<◌, ◌≤◌, ◌^◌};
 
-use crate::phases::{read_step, write_step};
+use crate::phases::{counted, read_step, write_step};
 use crate::tiny::Tiny;
 use plain_board::PlainBoard;
 use stamped_read::{Read, StampedReader};
 use std::alloc::{AllocError, Global};
 use std::marker::Model;
 
-/// Two ranks that write their windows, up to three puts of each, and a reader of
-/// both at the hub's seat, whose steps may be made in any order.
+/// One or two ranks that write their windows, and a reader of these at the hub's
+/// seat, whose steps may be made in any order.
 #[derive(Drop)]
 pub struct Bench {
     board: PlainBoard<Tiny>,
@@ -17,7 +17,9 @@ pub struct Bench {
     lasts: [u64; 2],
     /// How many steps of the next it has made.
     steps: [usize; 2],
+    ranks: usize,
     width: usize,
+    most: u64,
 }
 
 impl Model for Bench {
@@ -26,23 +28,19 @@ impl Model for Bench {
 
     ghost Value = { ℕ };
 
-    ghost view = { λ a. a.width };
+    ghost view = { λ a. a.ranks };
 
-    ghost invariant = { λ a. IsBench a.board a.reader a.lasts a.steps a.width };
+    ghost invariant = { λ a. IsBench a.board a.reader a.lasts a.steps a.ranks a.width a.most };
 }
 
 impl Bench {
-    /// Nothing is written or read. Each entry has so many words, which are its
-    /// number.
-    pub fn new(alloc: Global, width: usize) -> Result<Bench, AllocError>
-        requires { width < 2 ^ 32 }
+    /// Nothing is written or read. The leaders' windows are the ranks'.
+    pub fn new(alloc: Global, meaning: Tiny) -> Result<Bench, AllocError>
+        requires leads { 0 < meaning.leaders }
+        requires few { meaning.leaders ≤ 2 }
+        requires small { meaning.width < 2 ^ 32 }
     {
-        let meaning = Tiny {
-            windows: 2,
-            leaders: 2,
-            width,
-            most: 3,
-        };
+        let (ranks, width, most) = (meaning.leaders, meaning.width, meaning.most);
         let reader = StampedReader::new(alloc, &meaning)?;
         let board = PlainBoard::new(alloc, meaning)?;
         Ok(Bench {
@@ -50,16 +48,19 @@ impl Bench {
             reader,
             lasts: [0; 2],
             steps: [0; 2],
+            ranks,
             width,
+            most,
         })
     }
 
-    /// The rank's next step, if it has one.
-    pub fn write(&mut self, rank: usize)
-        requires { rank < 2 }
-    {
+    /// A rank's next step, if there is such a rank and it has one.
+    pub fn write(&mut self, rank: usize) {
+        if rank >= self.ranks {
+            return;
+        }
         let last = self.lasts[rank];
-        if last == 3 {
+        if last == self.most {
             return;
         }
         let step = self.steps[rank];
@@ -74,25 +75,13 @@ impl Bench {
         read_step(&mut self.board, &mut self.reader)
     }
 
-    /// The words that the reader has of a rank's part.
-    pub fn part(&self, rank: usize) -> &[u64]
-        requires { rank < 2 }
-    {
-        self.reader.part(rank)
-    }
-}
-
-/// The puts that are closed and the steps of the next, after one more step.
-fn counted(width: usize, last: u64, step: usize) -> (u64, usize)
-    requires last { last < 3 }
-    requires step { step < width + 2 }
-    requires width { width < 2 ^ 32 }
-    ensures closed { step ≡ width + 1 → (result.0 ≡ last + 1) × (result.1 ≡ 0) }
-    ensures goes { step < width + 1 → (result.0 ≡ last) × (result.1 ≡ step + 1) }
-{
-    if step == width + 1 {
-        (last + 1, 0)
-    } else {
-        (last, step + 1)
+    /// The words that the reader has of a rank's part, and none where there is no
+    /// such rank.
+    pub fn part(&self, rank: usize) -> &[u64] {
+        if rank < self.ranks {
+            self.reader.part(rank)
+        } else {
+            &[]
+        }
     }
 }

@@ -1,4 +1,4 @@
-ghost use Rattle.std.specs.Prelude.{◌≡◌, ◌<◌, ◌+◌};
+ghost use Rattle.std.specs.Prelude.{◌≡◌, ◌<◌, ◌+◌, ◌^◌};
 ghost use Rattle.stamped_read.specs.Promises.{IsSameGroup};
 ghost use Rattle.window_tests.specs.Phases.{viewed, HasPut, IsLeaders, IsPutting};
 ghost use Rattle.window_tests.specs.Phases.{IsReadAt, StaysBut, WritesAt};
@@ -69,4 +69,19 @@ pub fn read_step(board: &mut PlainBoard<Tiny>, reader: &mut StampedReader) -> Re
 {
     board.select(0);
     reader.step(board)
+}
+
+/// The puts that are closed and the steps of the next, after one more step.
+pub fn counted(width: usize, last: u64, step: usize) -> (u64, usize)
+    requires last { last < 2 ^ 62 }
+    requires step { step < width + 2 }
+    requires width { width < 2 ^ 32 }
+    ensures closed { step ≡ width + 1 → (result.0 ≡ last + 1) × (result.1 ≡ 0) }
+    ensures goes { step < width + 1 → (result.0 ≡ last) × (result.1 ≡ step + 1) }
+{
+    if step == width + 1 {
+        (last + 1, 0)
+    } else {
+        (last, step + 1)
+    }
 }

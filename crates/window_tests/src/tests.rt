@@ -1,4 +1,4 @@
-ghost use Rattle.std.specs.Prelude.{◌<◌};
+ghost use Rattle.std.specs.Prelude.{◌≡◌, ◌<◌};
 
 use crate::bench::Bench;
 use crate::tiny::Tiny;
@@ -9,9 +9,21 @@ use std::process::Abort;
 use std::rt::HostRuntime;
 use std::test::Fail;
 
+/// The windows of two ranks, with entries of so many words and up to three puts.
+pub fn two_ranks(width: usize) -> Tiny
+    ensures { (result.leaders ≡ 2) × (result.width ≡ width) }
+{
+    Tiny {
+        windows: 2,
+        leaders: 2,
+        width,
+        most: 3,
+    }
+}
+
 /// Both ranks' windows with put 1, whose parts have two words.
 fn with_put(alloc: Global) -> Result<Bench, AllocError> {
-    let mut bench = Bench::new(alloc, 2)?;
+    let mut bench = Bench::new(alloc, two_ranks(2))?;
     for step in 0..8 {
         bench.write(step / 4);
     }
@@ -28,9 +40,7 @@ fn read_on(bench: &mut Bench, steps: usize) -> Read {
 }
 
 /// Whether the words that the reader has of a rank's part are those of this put.
-fn has_words(bench: &Bench, rank: usize, put: u64, width: usize) -> bool
-    requires { rank < 2 }
-{
+fn has_words(bench: &Bench, rank: usize, put: u64, width: usize) -> bool {
     let words = bench.part(rank);
     words.len() == width && words.iter().all(|word| *word == put)
 }
@@ -89,7 +99,7 @@ fn a_put_read_twice(rt: HostRuntime) -> Result<(), Fail> {
 
 #[test]
 fn a_put_that_is_begun(rt: HostRuntime) -> Result<(), Fail> {
-    let mut bench = Bench::new(rt.alloc(), 2)?;
+    let mut bench = Bench::new(rt.alloc(), two_ranks(2))?;
     assert!(rt; bench.read() == Read::Again(Again::Old { stamp: 0, last: 0 }));
     bench.write(0);
     assert!(rt; bench.read() == Read::Again(Again::Odd { rank: 0, stamp: 1 }));
@@ -172,7 +182,7 @@ impl Order {
 /// put. What is read is a put exactly where one stood whole at all loads of stamps,
 /// and then it is that one.
 fn in_order(rt: &impl Abort, alloc: Global, bits: u32) -> Result<(), AllocError> {
-    let mut bench = Bench::new(alloc, 1)?;
+    let mut bench = Bench::new(alloc, two_ranks(1))?;
     for step in 0..6 {
         bench.write(step / 3);
     }

@@ -4,7 +4,7 @@ ghost use Rattle.std.proofs.lemmas.List.{length-replicate};
 use window_words::Meaning;
 
 /// Windows of one width, each word of whose entries is the entry's number.
-#[derive(Drop)]
+#[derive(Clone, Copy)]
 pub struct Tiny {
     pub windows: usize,
     pub leaders: usize,

@@ -1,0 +1,4 @@
+pub mod Agreed
+mod LateStages
+pub mod MadePoints
+mod Tests

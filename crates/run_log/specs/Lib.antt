@@ -1,0 +1,13 @@
+pub mod Events
+pub mod Runs
+pub use Rattle.bound_ledger.specs.Pairs
+pub use Rattle.branch_bound.specs.PlainSearch
+pub use Rattle.dual_value.specs.Duals
+pub use Rattle.agreement.specs.Agreeing
+pub use Rattle.lagrangian_spoke.specs.Answering
+pub use Rattle.log_words.specs.Replies
+pub use Rattle.put_words.specs.Hedged
+pub use Rattle.put_words.specs.NextMultipliers
+pub use Rattle.put_words.specs.Puts
+pub use Rattle.sp_model.specs.Plans
+pub use Rattle.sp_model.specs.Problems

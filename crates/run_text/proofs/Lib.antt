@@ -1,0 +1,6 @@
+mod Putting
+mod Numbering
+mod Tokens
+mod Reading
+mod Answered
+mod Same

@@ -1,0 +1,11 @@
+pub mod RunLines
+pub mod Bodies
+pub mod Puts
+pub mod Telling
+pub use Rattle.bound_ledger.specs.Pairs
+pub use Rattle.io_edge.specs.Faults
+pub use Rattle.io_edge.specs.Sinks
+pub use Rattle.text_lines.specs.Headings
+pub use Rattle.text_lines.specs.Lines
+pub use Rattle.wide_num.specs.FractionText
+pub use Rattle.wide_num.specs.LowestTerms

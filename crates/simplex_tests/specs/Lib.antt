@@ -1,0 +1,1 @@
+pub use Rattle.boxed_problem.specs.Data

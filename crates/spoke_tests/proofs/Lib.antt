@@ -1,0 +1,4 @@
+mod Benching
+mod Finishing
+mod Parts
+mod Seating

@@ -1,0 +1,9 @@
+pub mod Benches
+pub mod Seats
+pub use Rattle.hedging.specs.Hedges
+pub use Rattle.lagrangian_spoke.specs.Spokes
+pub use Rattle.plain_board.specs.Plain
+pub use Rattle.put_codec.specs.Layouts
+pub use Rattle.put_read.specs.Reads
+pub use Rattle.put_words.specs.Puts
+pub use Rattle.window_words.specs.Views
