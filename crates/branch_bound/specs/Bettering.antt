@@ -1,6 +1,6 @@
 -- what a best value so far leaves of sides, under the objective and under prices
 use Rattle.std.specs.Prelude.{◌≡◌, true, List, ℤ, pos, ◌≤ℤ◌, ◌-ℤ◌, ◌*ℤ◌, Option}
-use Rattle.boxed_problem.specs.Data.{Problem}
+use Rattle.boxed_problem.specs.Data.{Problem, problem_of}
 use Rattle.boxed_problem.specs.Objective.{curve, value_of}
 use Rattle.boxed_problem.specs.Optimum.{improves}
 use Rattle.boxed_problem.specs.Points.{InBox}
@@ -13,6 +13,7 @@ use Rattle.branch_bound.specs.Narrowing.{KeepsBetter}
 use Rattle.branch_bound.specs.ValueGrid.{IsGrid}
 use Rattle.branch_bound.specs.declared.gridding.Grid.{Grid}
 use Rattle.branch_bound.specs.declared.pricing.Pricing.{Pricing}
+use Rattle.dual_simplex.specs.declared.simplex.Simplex.{Simplex}
 use Rattle.propagate.specs.Ranged.{IsInside}
 use Rattle.propagate.specs.Trails.{KeepsAllMarks}
 use Rattle.propagate.specs.declared.trail.Trail.{Trail}
@@ -45,14 +46,15 @@ pub record KeepsSlack (line square : ℤ) (side : Side) (slack : ℤ) (new : Sid
       → (new.lower ≤ℤ x) × (x ≤ℤ new.upper)
 
 -- prices that fit a problem, the problem's own objective and the one that prices reduce, which stay
--- under the problem's, and the grid of its values
-pub record IsPricing (b : Problem) (prices : Prices) (plain priced : Reduced)
-    (grid : Grid) : Type 0 where
+-- under the problem's, the grid of its values, and a simplex that is of this problem
+pub record IsPricing (b : Problem) (prices : Prices) (plain priced : Reduced) (grid : Grid)
+    (simplex : Simplex) : Type 0 where
   pub fit : FitsPrices b prices
   pub plain_under : IsUnder b plain
   pub priced_under : IsUnder b priced
   pub values : IsGrid b grid.base grid.step
+  pub of : problem_of simplex.problem.value ≡ b
 
 -- what a search prices its boxes by is right for a problem
 abbrev pub IsPriced : Problem → Pricing → Type 0
-IsPriced b p = IsPricing b p.prices p.plain p.priced p.grid
+IsPriced b p = IsPricing b p.prices p.plain p.priced p.grid p.simplex

@@ -14,9 +14,11 @@ mod pacing;
 mod plain_law;
 mod pricing;
 mod pruning;
+mod scaling;
 mod searching;
 mod stepping;
+mod suggesting;
 
 pub use fault::SolveFault;
 pub use plain_law::{plain_counts_of_small, plain_search_is_unbounded};
-pub use searching::solve;
+pub use searching::{solve, solve_from};

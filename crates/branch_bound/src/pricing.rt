@@ -1,23 +1,23 @@
-ghost use Rattle.std.specs.Prelude.{◌≡◌, ℕ, ◌<◌, pos, IfOk, OnOk, length};
+ghost use Rattle.std.specs.Prelude.{◌≡◌, ℕ, ◌<◌, pos, IfOk, length};
 ghost use Rattle.boxed_problem.specs.Data.{problem_of};
 ghost use Rattle.boxed_problem.specs.PriceFit.{FitsPrices};
-ghost use Rattle.boxed_problem.specs.Sides.{Within};
 ghost use Rattle.base_words.specs.Sums.{number_at};
 ghost use Rattle.branch_bound.specs.Bettering.{IsPriced};
 
 use crate::gridding::{Grid, grid_of};
 use crate::pacing::Pace;
-use boxed_problem::{Boxed, Prices, Side};
-use row_prices::improve;
+use crate::scaling::{caps_of, fraction_bits, scale_of};
+use boxed_problem::{Boxed, Prices};
+use dual_simplex::Simplex;
+use row_prices::fits;
 use safe_bound::{Reduced, reduce_by};
 use std::alloc::{AllocError, Global};
 use wide_num::List;
 
-/// The scale of the prices, where it fits.
-const SCALE: i128 = 1 << 20;
-
 /// What bounds the values in a box: the objective itself, the objective with
-/// the present prices taken into it, and the grid of the values.
+/// the present prices taken into it, and the grid of the values; and what
+/// suggests prices: the simplex, the caps of the rows' prices and the bits of
+/// their fraction, and the simplex's last point.
 #[derive(Drop)]
 pub struct Pricing {
     pub prices: Prices,
@@ -25,6 +25,10 @@ pub struct Pricing {
     pub priced: Reduced,
     pub grid: Grid,
     pub pace: Pace,
+    pub simplex: Simplex,
+    pub caps: Vec<u128>,
+    pub bits: u32,
+    pub point: Vec<i64>,
 }
 
 /// So many times 0.
@@ -51,12 +55,13 @@ fn no_prices(alloc: Global, problem: &Boxed) -> Result<Prices, AllocError>
 fn first_prices(alloc: Global, problem: &Boxed) -> Result<Prices, AllocError>
     ensures { IfOk result (λ prices. FitsPrices (problem_of problem.now) prices) }
 {
+    let bits = fraction_bits(problem, zeros(alloc, problem.rows.len())?);
     let values = zeros(alloc, problem.rows.len())?;
     let fine = Prices {
-        scale: SCALE,
+        scale: scale_of(bits),
         values,
     };
-    if problem.fits(&fine) {
+    if fits(problem, &fine) {
         return Ok(fine);
     }
     no_prices(alloc, problem)
@@ -71,26 +76,18 @@ pub fn pricing_of(alloc: Global, problem: &Boxed) -> Result<Pricing, AllocError>
     let prices = first_prices(alloc, problem)?;
     let priced = reduce_by(problem, &prices)?;
     let grid = grid_of(alloc, problem)?;
+    let bits = prices.scale.trailing_zeros();
+    let caps = caps_of(alloc, problem)?;
+    let point = vec![in alloc; 0i64; problem.columns.len()]?;
     Ok(Pricing {
         prices,
         plain,
         priced,
         grid,
         pace: Pace::first(),
+        simplex: Simplex::idle(alloc, problem),
+        caps,
+        bits,
+        point,
     })
-}
-
-/// Improves the prices over the sides, by so many rounds as the pace tells.
-pub fn raise_prices(
-    problem: &Boxed,
-    sides: &List<Side>,
-    pricing: &mut Pricing,
-) -> Result<(), AllocError>
-    requires sides { Within sides.now problem.now.columns }
-    requires pricing { IsPriced (problem_of problem.now) pricing.old }
-    ensures { OnOk result (IsPriced (problem_of problem.now) pricing.new) }
-{
-    improve(problem, sides, &mut pricing.prices, pricing.pace.rounds)?;
-    pricing.priced = reduce_by(problem, &pricing.prices)?;
-    Ok(())
 }

@@ -6,10 +6,10 @@ ghost use Rattle.branch_bound.specs.Answers.{IsAnswer};
 ghost use Rattle.branch_bound.specs.Bettering.{IsPriced};
 ghost use Rattle.branch_bound.specs.Frames.{Chain, IsFrame, IsStack, box_of, boxes_of};
 ghost use Rattle.propagate.specs.SparseParts.{IsOf};
-ghost use Rattle.branch_bound.specs.Narrowing.{IsBar, IsKnown, NotPast};
+ghost use Rattle.branch_bound.specs.Narrowing.{IsBar, IsFound, IsKnown, NotPast};
 
 use crate::fault::SolveFault;
-use crate::first_values::first_value;
+use crate::first_values::{begun_at, first_value};
 use crate::frames::{Frame, halve, push_two, root};
 use crate::pacing::Pace;
 use crate::pricing::{Pricing, pricing_of};
@@ -129,11 +129,14 @@ pub fn solve_below(
     }
 }
 
-/// The least value over the feasible points, and the first point in the order
-/// of columns, smaller values first, that has it. `Infeasible` comes only
-/// where no point is feasible, and `Spent` only where the plain search opens
-/// more boxes than the budget; `opened` is then the budget.
-pub fn solve(alloc: Global, problem: &Boxed, budget: u64) -> Result<Best, SolveFault>
+/// The answer of `solve`, by a search that may begin with a feasible point.
+fn solve_begun(
+    alloc: Global,
+    problem: &Boxed,
+    begun: Option<Best>,
+    budget: u64,
+) -> Result<Best, SolveFault>
+    requires { IsFound (problem_of problem.now) begun }
     ensures { IsAnswer (problem_of problem.now) budget result }
 {
     let Ok(sparse) = sparse_of(alloc, problem) else {
@@ -143,8 +146,36 @@ pub fn solve(alloc: Global, problem: &Boxed, budget: u64) -> Result<Best, SolveF
         return Err(SolveFault::Memory);
     };
     let tries = (budget / 10).min(FIRST_PASS_BOXES);
-    let Ok(known) = first_value(alloc, problem, &sparse, &mut pricing, tries) else {
+    let Ok(known) = first_value(alloc, problem, &sparse, &mut pricing, begun, tries) else {
         return Err(SolveFault::Memory);
     };
     solve_below(alloc, problem, &sparse, &mut pricing, known, budget)
+}
+
+/// The least value over the feasible points, and the first point in the order
+/// of columns, smaller values first, that has it. `Infeasible` comes only
+/// where no point is feasible, and `Spent` only where the plain search opens
+/// more boxes than the budget; `opened` is then the budget.
+pub fn solve(alloc: Global, problem: &Boxed, budget: u64) -> Result<Best, SolveFault>
+    ensures { IsAnswer (problem_of problem.now) budget result }
+{
+    solve_begun(alloc, problem, None, budget)
+}
+
+/// As `solve`, with a point to begin with: where it is feasible, its value is
+/// known from the start, and no box is searched for points that are worse. The
+/// answer is that of `solve` whatever the point is, but for `Spent`, which a good
+/// point may spare; one that isn't feasible, or has another length, is passed over.
+pub fn solve_from(
+    alloc: Global,
+    problem: &Boxed,
+    start: &List<i64>,
+    budget: u64,
+) -> Result<Best, SolveFault>
+    ensures { IsAnswer (problem_of problem.now) budget result }
+{
+    let Ok(begun) = begun_at(alloc, problem, start) else {
+        return Err(SolveFault::Memory);
+    };
+    solve_begun(alloc, problem, begun, budget)
 }

@@ -42,6 +42,7 @@ fn only_point(alloc: Global, problem: &Boxed, sides: &List<Side>) -> Result<Best
 /// Goes to the box of a frame, and narrows its sides. It answers false where
 /// the box is pruned.
 fn reach(
+    alloc: Global,
     problem: &Boxed,
     sparse: &Sparse,
     pricing: &mut Pricing,
@@ -70,7 +71,7 @@ fn reach(
         (λ on. on ≡ true → is_pruned (problem_of problem.now) trail.new.sides best.now ≡ false) }
 {
     enter(trail, sparse, frame)?;
-    if !narrow_priced(problem, sparse, pricing, best, trail)? {
+    if !narrow_priced(alloc, problem, sparse, pricing, best, trail)? {
         return Ok(false);
     }
     Ok(!is_pruned(problem, sparse, trail, best))
@@ -101,7 +102,7 @@ pub fn step(
         (λ place. IsStep (problem_of problem.now) best.old best.new
         (box_of problem.now.columns trail.old frame) trail.new.sides place) }
 {
-    if !reach(problem, sparse, pricing, best, trail, frame)? {
+    if !reach(alloc, problem, sparse, pricing, best, trail, frame)? {
         return Ok(None);
     }
     let columns = problem.columns.as_slice();

@@ -8,4 +8,5 @@ mod fitting;
 mod improving;
 mod parts;
 
+pub use fitting::fits;
 pub use improving::improve;

@@ -1,6 +1,6 @@
 use crate::problems::{Row, problem, small, tied};
-use boxed_problem::{Boxed, scan};
-use branch_bound::{SolveFault, solve};
+use boxed_problem::{Best, Boxed, scan};
+use branch_bound::{SolveFault, solve, solve_from};
 use std::alloc::{AllocError, Global};
 use std::process::Abort;
 use std::test::Fail;
@@ -17,6 +17,12 @@ fn counts_boxes_of_small(rt: HostRuntime) -> Result<(), Fail> {
         assert_eq!(rt; fault, Some(SolveFault::Spent { opened: 1 }));
         let none = solve(rt.alloc(), &problem, 0).err();
         assert_eq!(rt; none, Some(SolveFault::Spent { opened: 0 }));
+        let off = List::from_slice(rt.alloc(), &[11, 0])?;
+        let fault = solve_from(rt.alloc(), &problem, &off, 1).err();
+        assert_eq!(rt; fault, Some(SolveFault::Spent { opened: 1 }));
+        let least = List::from_slice(rt.alloc(), &[x, 0])?;
+        let best = solve_from(rt.alloc(), &problem, &least, few)?;
+        assert_eq!(rt; best.point.as_slice(), [x, 0].as_slice());
     }
     let far = small(&rt, rt.alloc(), 21)?;
     assert_eq!(rt;
@@ -110,17 +116,53 @@ fn needs_few_boxes_for_the_farm(rt: HostRuntime) -> Result<(), Fail> {
     Ok(())
 }
 
-/// Whether the search and the list of all points give the same answer.
+/// Whether an answer is the point that the list of all points gives, or that
+/// there is none.
+fn is_listed(listed: &Option<Best>, found: Result<Best, SolveFault>) -> bool {
+    match found {
+        Ok(best) => *listed == Some(best),
+        Err(SolveFault::Infeasible) => listed.is_none(),
+        Err(_) => false,
+    }
+}
+
+/// Whether the search that begins with a point gives the listed answer.
+fn agrees_from(
+    alloc: Global,
+    problem: &Boxed,
+    listed: &Option<Best>,
+    start: &[i64],
+) -> Result<bool, AllocError> {
+    let point = List::from_slice(alloc, start)?;
+    let found = solve_from(alloc, problem, &point, 10000);
+    Ok(is_listed(listed, found))
+}
+
+/// Whether the search and the list of all points give the same answer, also
+/// where the search begins with the least point, with others on and off the box,
+/// feasible or not, or with points of the wrong length.
 fn agrees(alloc: Global, problem: &Boxed) -> Result<bool, AllocError> {
     if !problem.has_few_points() {
         return Ok(false);
     }
     let listed = scan(alloc, problem)?;
-    match solve(alloc, problem, 10000) {
-        Ok(best) => Ok(listed == Some(best)),
-        Err(SolveFault::Infeasible) => Ok(listed.is_none()),
-        Err(_) => Ok(false),
+    if !is_listed(&listed, solve(alloc, problem, 10000)) {
+        return Ok(false);
     }
+    if let Some(best) = &listed {
+        if !agrees_from(alloc, problem, &listed, best.point.as_slice())? {
+            return Ok(false);
+        }
+    }
+    for (first, second) in [(0, 0), (1, -1), (3, 2), (5, -4), (9, 9)] {
+        if !agrees_from(alloc, problem, &listed, &[first, second])? {
+            return Ok(false);
+        }
+    }
+    Ok(
+        agrees_from(alloc, problem, &listed, &[])?
+            && agrees_from(alloc, problem, &listed, &[0, 0, 0])?,
+    )
 }
 
 #[test]

@@ -1,4 +1,4 @@
-use Rattle.std.proofs.Common.{arith, ◌≡◌, ◌++◌, ◌∷◌, [], None}
+use Rattle.std.proofs.Common.{arith, ◌≡◌, ◌++◌, ◌∷◌, []}
 use Rattle.boxed_problem.specs.Data.{problem_of}
 use Rattle.branch_bound.specs.Frames.{IsFrame}
 use Rattle.boxed_problem.proofs.Optimal.{filled_of}
@@ -10,7 +10,7 @@ pub loop-init : goal.loop-init
 loop-init c =
     let b = problem_of c.args.problem.now in
     let frames : c.push.new.self ≡ root b ∷ [] = rw (c.new-frames.ensures, c.root.ensures, c.as_slice.ensures) at c.in_ok-push.ensures.ok in
-    rw frames (record { stack = root_is b None c.in_ok-trail.trail (filled_of c.args.problem.now) c.in_ok-trail.ensures.rooted; same = c.in_ok-trail.ensures.sparse; pricing = c.requires.pricing; found = tt })
+    rw frames (record { stack = root_is b c.args.begun c.in_ok-trail.trail (filled_of c.args.problem.now) c.in_ok-trail.ensures.rooted; same = c.in_ok-trail.ensures.sparse; pricing = c.requires.pricing; found = c.requires.begun })
 
 pub open_either-requires-clause-frame : goal.open_either-requires-clause-frame
 open_either-requires-clause-frame c =
