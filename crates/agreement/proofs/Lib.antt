@@ -1,4 +1,4 @@
 pub mod Agreed
-mod LateStages
+pub mod LateStages
 pub mod MadePoints
 mod Tests

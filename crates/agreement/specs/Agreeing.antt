@@ -1,12 +1,17 @@
 -- Whether the values of a put agree: scenarios that can't yet be told apart have the same ones.
 
-use Rattle.std.specs.Prelude.{◌≡◌, ℕ, ◌<◌, List, ℤ}
+use Rattle.std.specs.Prelude.{◌≡◌, ℕ, ◌*◌, ◌<◌, List, length, ℤ}
 use Rattle.std.specs.List.{All}
 use Rattle.tree_core.specs.Nodes.{Share, first_of}
 use Rattle.sp_model.specs.Plans.{stage_of}
+use Rattle.sp_model.specs.Problems.{scenarios}
 use Rattle.sp_model.specs.declared.run.Run.{Run}
 use Rattle.put_words.specs.NodeSums.{value_at}
 use Rattle.run_calls.specs.MultiplierTests.{node_at}
+
+-- a value for each scenario and nonleaf column
+abbrev pub AreWhole : Run → List ℤ → Type 0
+AreWhole run x = length x ≡ scenarios run * run.nonleaf
 
 -- values agree: scenarios that share a node of a nonleaf column's stage have the same value there
 abbrev pub AreAgreed : Run → List ℤ → Type 0

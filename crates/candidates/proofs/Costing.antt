@@ -28,6 +28,7 @@ use Rattle.sp_model.proofs.LeastSums.{line_room}
 use Rattle.sp_model.proofs.SumSome.{sum_more}
 use Rattle.tree_core.specs.Nodes.{Share}
 use Rattle.agreement.specs.Agreeing.{AreAgreed}
+use Rattle.agreement.proofs.LateStages.{late_stage, leaf_alone, other_there, shares_there}
 use Rattle.candidates.specs.Values.{given}
 use Rattle.candidates.specs.declared.candidate.Candidate.{Candidate}
 use Rattle.candidates.specs.Fixing.{FixFails, LieBelow, SearchFails}
@@ -35,8 +36,6 @@ use Rattle.candidates.specs.Under.{AreBestUnder, UnderFails, HavePointsUnder, Is
 use Rattle.candidates.specs.declared.fault.PriceFault.{PriceFault}
 use Rattle.candidates.specs.declared.fault.PriceFault.TheVariants.{NoPoint, Spent, Memory}
 use Rattle.candidates.proofs.Fixed.{best_under, best_value, fixed_same, none_least, none_under, under_least}
-use Rattle.candidates.proofs.LastStage.{alone, late_stage}
-use Rattle.candidates.proofs.Sharing.{shared_there}
 
 -- a sum of terms that are all there
 sum_there : (n : ℕ) (f : ℕ → Option ℤ) (g : ℕ → ℤ) → ((k : ℕ) → k < n → f k ≡ Some (g k)) → sum_some n f ≡ Some (sum_below n g)
@@ -81,11 +80,12 @@ same_values run candidate plan agreed best s u j l share = by_column (nat_lt j r
     by_column : (t : Bool) → nat_lt j run.nonleaf ≡ t → number_at (point_of plan s) j ≡ number_at (point_of plan u) j
     by_column true e =
         let h = less_from_test j run.nonleaf e in
-        let there = shared_there run s u (stage_of run j) share in
-        (best.each s there.0).under.early j h ∙ agreed s u j h share ∙ sym ((best.each u there.1).under.early j h)
+        let first = shares_there run s u (stage_of run j) share in
+        let second = other_there run s u (stage_of run j) share in
+        (best.each s first).under.early j h ∙ agreed s u j h share ∙ sym ((best.each u second).under.early j h)
     by_column false e =
         let late = late_stage run j (not_less_from_test j run.nonleaf e) l in
-        ap (λ k. number_at (point_of plan k) j) (alone run s u (subst (λ t. Share run.program.tree.nodes s u t) late share))
+        ap (λ k. number_at (point_of plan k) j) (leaf_alone run s u (subst (λ t. Share run.program.tree.nodes s u t) late share))
 
 pub best_plan : (run : Run) (candidate : Candidate) (plan : Plan) → AreAgreed run candidate.values → AreBestUnder run (given run candidate) plan → IsPlan run plan
 best_plan run candidate plan agreed best = record {

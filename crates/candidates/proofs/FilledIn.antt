@@ -17,15 +17,16 @@ use Rattle.sp_model.specs.Plans.{stage_of}
 use Rattle.sp_model.specs.Problems.{scenarios}
 use Rattle.sp_model.specs.declared.run.Run.{Run}
 use Rattle.tree_core.specs.Nodes.{scenarios_at}
-use Rattle.agreement.specs.Agreeing.{AreAgreed}
-use Rattle.candidates.specs.Values.{AreWhole, HasValues}
+use Rattle.agreement.specs.Agreeing.{AreAgreed, AreWhole}
+use Rattle.agreement.proofs.LateStages.{other_there, shares_there}
+use Rattle.candidates.specs.Values.{HasValues}
 use Rattle.candidates.specs.Choices.{chosen, chosen_for}
 use Rattle.candidates.specs.Filling.{AreFilled, IsDone, IsPut}
 use Rattle.candidates.specs.declared.candidate.Candidate.{Candidate}
 use Rattle.candidates.specs.declared.choosing.Choice.{Choice}
 use Rattle.candidates.proofs.Means.{chosen_inside}
 use Rattle.put_words.proofs.Bundles.{node_is}
-use Rattle.candidates.proofs.Sharing.{own_in, own_stage, shared_bundle, shared_there}
+use Rattle.candidates.proofs.Sharing.{own_in, own_stage, shared_bundle}
 
 -- two cells of a table are at one place only where they are the same
 cell_same : (m s j u k : ℕ) → j < m → k < m → s * m + j ≡ u * m + k → (s ≡ u) × (j ≡ k)
@@ -151,10 +152,11 @@ filled_has run x c n made all are = record { whole = are.whole; each = filled_at
 
 pub filled_agreed : (run : Run) (x : List ℤ) (c : Choice) (n : ℕ) (made : Candidate) → n ≡ length run.program.tree.nodes → AreFilled run x c n 0 made.values → AreAgreed run made.values
 filled_agreed run x c n made all are s u j h share =
-    let there = shared_there run s u (stage_of run j) share in
-    filled_at run x c n made.values all are s j there.0 h
+    let first = shares_there run s u (stage_of run j) share in
+    let second = other_there run s u (stage_of run j) share in
+    filled_at run x c n made.values all are s j first h
     ∙ ap (λ ns. chosen run x c ns j) (shared_bundle run s u j h share)
-    ∙ sym (filled_at run x c n made.values all are u j there.1 h)
+    ∙ sym (filled_at run x c n made.values all are u j second h)
 
 pub filled_inside : (run : Run) (x : List ℤ) (c : Choice) (n : ℕ) (made : Candidate) → AreInside run x → n ≡ length run.program.tree.nodes → AreFilled run x c n 0 made.values → AreInside run made.values
 filled_inside run x c n made inside all are = record {

@@ -1,6 +1,5 @@
 pub mod Costing
 mod FilledIn
 mod Fixed
-mod LastStage
 mod Means
 mod Sharing

@@ -2,9 +2,8 @@
 
 use Rattle.std.proofs.Common.{sym, ap, subst, ◌∙◌, ◌≡◌, ℕ, ◌<◌, true}
 use Rattle.std.proofs.lemmas.List.{get_or_default}
-use Rattle.std.proofs.lemmas.List.Elements.{All-contains}
 use Rattle.std.specs.List.{Contains}
-use Rattle.tree_core.specs.Nodes.{holds, no_node, scenarios_at, Share}
+use Rattle.tree_core.specs.Nodes.{holds, no_node, Share}
 use Rattle.tree_core.specs.declared.tree.Node.{Node}
 use Rattle.tree_core.proofs.Finding.{held_in, held_stage}
 use Rattle.tree_core.proofs.Listing.{place_passes}
@@ -15,16 +14,6 @@ use Rattle.sp_model.specs.declared.run.Run.{Run}
 use Rattle.put_words.specs.NodeSums.{bundle, node_for}
 use Rattle.put_words.proofs.Bundles.{bundle_is}
 use Rattle.put_words.proofs.Rises.{node_below}
-
--- the scenarios of a node that is shared are those of the run
-pub shared_there : (run : Run) (s u t : ℕ) → Share run.program.tree.nodes s u t → (s < scenarios run) × (u < scenarios run)
-shared_there run s u t (i, n, node, is, (stage, has, other)) =
-    let nodes = run.program.tree.nodes in
-    let at : n ≡ node_at run i = sym is ∙ get_or_default nodes i n no_node node in
-    let below = (run.facts.tree.nodes i no_node node).there in
-    let P : Node → Type 0 = λ m. Contains m.scenarios s in
-    let Q : Node → Type 0 = λ m. Contains m.scenarios u in
-    (All-contains (λ k. k < scenarios run) (scenarios_at nodes i) s below (subst P at has), All-contains (λ k. k < scenarios run) (scenarios_at nodes i) u below (subst Q at other))
 
 -- scenarios that share a node have the same bundle
 pub shared_bundle : (run : Run) (s u j : ℕ) → j < run.nonleaf → Share run.program.tree.nodes s u (stage_of run j) → bundle run s j ≡ bundle run u j

@@ -5,7 +5,7 @@ use Rattle.put_words.specs.NodeSums.{node_for, value_at}
 use Rattle.sp_model.specs.Problems.{scenarios}
 use Rattle.sp_model.specs.declared.run.Run.{Run}
 use Rattle.candidates.specs.Choices.{chosen_for}
-use Rattle.candidates.specs.Values.{AreWhole}
+use Rattle.agreement.specs.Agreeing.{AreWhole}
 use Rattle.candidates.specs.declared.choosing.Choice.{Choice}
 
 -- the first k of some scenarios have a value in column j now, and all other values are as before

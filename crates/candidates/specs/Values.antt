@@ -1,15 +1,13 @@
 -- A candidate of a run: values of the nonleaf columns for each scenario.
 
-use Rattle.std.specs.Prelude.{◌≡◌, ℕ, ◌*◌, ◌<◌, List, length, ℤ}
+use Rattle.std.specs.Prelude.{◌≡◌, ℕ, ◌<◌, ℤ}
 use Rattle.sp_model.specs.Problems.{scenarios}
 use Rattle.sp_model.specs.declared.run.Run.{Run}
 use Rattle.put_words.specs.NodeSums.{value_at}
+use Rattle.agreement.specs.Agreeing.{AreWhole}
 use Rattle.candidates.specs.declared.candidate.Candidate.{Candidate}
 
 -- a value for each scenario and nonleaf column
-abbrev pub AreWhole : Run → List ℤ → Type 0
-AreWhole run x = length x ≡ scenarios run * run.nonleaf
-
 abbrev pub IsWhole : Run → Candidate → Type 0
 IsWhole run candidate = AreWhole run candidate.values
 

@@ -1,7 +1,7 @@
 ghost use Rattle.std.specs.Prelude.{◌≡◌, ◌%◌, ◌<◌, ◌≤ℤ◌, length, slice_index};
 ghost use Rattle.boxed_problem.specs.Sides.{side_at};
 ghost use Rattle.candidates.specs.Choices.{AreFit, chosen, mean_in};
-ghost use Rattle.candidates.specs.Values.{AreWhole};
+ghost use Rattle.agreement.specs.Agreeing.{AreWhole};
 ghost use Rattle.log_words.specs.Candidates.{cut};
 ghost use Rattle.put_words.specs.NodeSums.{AreInside};
 ghost use Rattle.sp_model.specs.Changes.{sides};

@@ -1,8 +1,8 @@
 ghost use Rattle.std.specs.Prelude.{◌≡◌, ◌+◌, ◌*◌, ◌<◌, length, slice_set, IfOk};
-ghost use Rattle.agreement.specs.Agreeing.{AreAgreed};
+ghost use Rattle.agreement.specs.Agreeing.{AreAgreed, AreWhole};
 ghost use Rattle.candidates.specs.Choices.{AreFit, chosen_for};
 ghost use Rattle.candidates.specs.Filling.{AreFilled, IsPut};
-ghost use Rattle.candidates.specs.Values.{AreWhole, HasValues};
+ghost use Rattle.candidates.specs.Values.{HasValues};
 ghost use Rattle.log_words.specs.Candidates.{mean_of, picked};
 ghost use Rattle.put_words.specs.NodeSums.{AreInside};
 ghost use Rattle.run_calls.specs.MultiplierTests.{AreMembers, is_of_stage};

@@ -2,6 +2,7 @@
 //! agree: how they are made of a put, and what the cheapest plan with them costs.
 #![tactic(auto)]
 
+mod agreeing;
 mod candidate;
 mod choosing;
 mod fault;
@@ -11,6 +12,7 @@ mod laws;
 mod pricing;
 mod summing;
 
+pub use agreeing::agrees;
 pub use candidate::Candidate;
 pub use fault::PriceFault;
 pub use filling::{mean, pick};

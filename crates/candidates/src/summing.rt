@@ -1,6 +1,6 @@
 ghost use Rattle.std.specs.Prelude.{◌≡◌, ◌+◌, ◌*◌, ◌<◌, length};
 ghost use Rattle.candidates.specs.Choices.{mean_in};
-ghost use Rattle.candidates.specs.Values.{AreWhole};
+ghost use Rattle.agreement.specs.Agreeing.{AreWhole};
 ghost use Rattle.put_words.specs.NodeSums.{AreInside, value_at};
 ghost use Rattle.sp_model.specs.Problems.{scenarios};
 ghost use Rattle.tree_core.specs.Nodes.{scenarios_at};
