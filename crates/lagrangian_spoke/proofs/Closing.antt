@@ -4,7 +4,6 @@ use Rattle.std.specs.Prelude.{int_lt}
 use Rattle.std.proofs.lemmas.List.{length-append}
 use Rattle.run_calls.specs.MultiplierTests.{AreLong}
 use Rattle.sp_model.specs.declared.run.Run.{Run}
-use Rattle.put_words.specs.Puts.{Made, put_of}
 use Rattle.log_words.specs.Replies.{reply_of}
 use Rattle.log_words.specs.declared.log.Answer.{Answer}
 use Rattle.log_words.specs.declared.log.Answer.TheVariants.{Reply}
@@ -24,14 +23,14 @@ use Rattle.lagrangian_spoke.specs.declared.spoke.Best.{Best}
 use Rattle.lagrangian_spoke.specs.declared.spoke.LagrangianSpoke.{LagrangianSpoke}
 use Rattle.lagrangian_spoke.specs.declared.spoke.Phase.TheVariants.{Asks, Writes}
 use Rattle.lagrangian_spoke.specs.Answering.{AreAnswers, IsPut, better_value, last_put, replied}
-use Rattle.lagrangian_spoke.specs.Spokes.{IsAtStart, IsBest, IsBestIf, IsInPhase, IsSpoke, Records, StandsFor, best_after, is_better, left_after, pending_in, read_last}
+use Rattle.lagrangian_spoke.specs.Spokes.{AreOfPut, IsAtStart, IsBest, IsBestIf, IsInPhase, IsSpoke, Records, StandsFor, best_after, is_better, left_after, pending_in, read_last}
 use Rattle.lagrangian_spoke.proofs.Standing.{keeps_phase, same_reads}
 use Rattle.lagrangian_spoke.proofs.Replying.{answer_more, best_more, last_more, replied_reply}
 use Rattle.run_calls.specs.declared.put.Put.{Put}
 use Rattle.put_codec.specs.declared.layout.Layout.{Layout}
 
 -- the best after one reply more
-module _ (run : Run) (s : LagrangianSpoke) (k : ℕ) (items : List Answer) (backs : (made : Made) → put_of run k ≡ Some made → s.reader.put.multipliers ≡ made.put.multipliers) where
+module _ (run : Run) (s : LagrangianSpoke) (k : ℕ) (items : List Answer) (backs : AreOfPut run k s.reader.put.multipliers) where
   abbrev items' : List Answer
   items' = items ++ Reply k (Some s.value) ∷ []
 
@@ -67,7 +66,7 @@ swapped_reads run v r r' h layout reader x left = record {
 
 -- a spoke that took one reply more
 pub recorded_spoke : (run : Run) (s s' : LagrangianSpoke) (k : ℕ) → IsSpoke run s → IsPut run k → last_put s.answers.items < k → reply_of run s.number k ≡ Some s.value → AreLong run s.reader.put.multipliers
-    → ((made : Made) → put_of run k ≡ Some made → s.reader.put.multipliers ≡ made.put.multipliers) → Records s s' k → IsSpoke run s'
+    → AreOfPut run k s.reader.put.multipliers → Records s s' k → IsSpoke run s'
 recorded_spoke run s s' k h may newer value read_long backs r =
     let last : last_put s'.answers.items ≡ k = ap last_put r.items ∙ last_more s.answers.items (Reply k (Some s.value)) in
     let long : length s'.answers.items ≡ length s.answers.items + 1 = ap (λ (z : List Answer). length z) r.items ∙ length-append s.answers.items (Reply k (Some s.value) ∷ []) in
@@ -99,7 +98,7 @@ closes run v s s' h e r =
     let read_long : AreLong run s.reader.put.multipliers = h.reads.room.multipliers ∙ wide in
     let left : AreLong run s'.reader.put.multipliers = subst (AreLong run) (sym r.left) (long_left run s (is_better s.best s.value) h.spoke.long read_long) in
     record {
-      spoke = recorded_spoke run (record s { phase = Asks }) s' k (keeps_phase run s Asks h.spoke) reply.put newer reply.value read_long (λ made m. ap (λ (z : Put). z.multipliers) (reply.read made m)) r;
+      spoke = recorded_spoke run (record s { phase = Asks }) s' k (keeps_phase run s Asks h.spoke) reply.put newer reply.value read_long (reply.read.made, reply.read.made_is, ap (λ (z : Put). z.multipliers) reply.read.put_is) r;
       phase = subst (IsInPhase run s') (sym r.phase) (omega arith, subst IsAtStart (sym r.reader) now.1);
       owns = ap (λ (z : Option Pending × List Owned). close_first (entry_of z.0) z.1) (λ i. (opened i, h.owns i)) ∙ (λ i. one (run.options.ranks + sym r.number i) (sym (ap replied r.items ∙ replied_reply s.answers.items k (Some s.value)) i));
       opened = ap (λ q. pending_in q (read_last s')) (sym r.phase);

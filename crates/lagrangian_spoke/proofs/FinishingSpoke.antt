@@ -1,11 +1,9 @@
 -- A put that is answered behind the end: the spoke keeps what it keeps, and the put is the last that it answered.
 use Rattle.std.proofs.Common.{arith, refl, sym, ap, ◌∙◌, subst, ◌≡◌, ℕ, ◌<◌, [], ◌∷◌, ◌++◌, Some}
-use Rattle.base_words.proofs.FirstAnswers.{same_some}
 use Rattle.run_calls.specs.MultiplierTests.{AreLong}
 use Rattle.sp_model.specs.declared.plan.Multipliers.{Multipliers}
 use Rattle.sp_model.specs.declared.run.Run.{Run}
 use Rattle.run_calls.specs.declared.put.Put.{Put}
-use Rattle.put_words.specs.Puts.{Made}
 use Rattle.log_words.specs.Replies.{reply_of}
 use Rattle.log_words.specs.declared.log.Answer.{Answer}
 use Rattle.log_words.specs.declared.log.Answer.TheVariants.{Reply, Skip}
@@ -58,7 +56,7 @@ module _ (run : Run) (s : LagrangianSpoke) (put : Put) (h : IsSpoke run s) (is :
       let value = ap (λ i. reply_of run i put.number) keeps.number ∙ found.value in
       let one = same_spoke run (given s m) s1 keeps.number found.answers keeps.best given_spoke in
       let two = recorded_spoke run s1 s2 put.number one is.number (omega arith) value (subst (AreLong run) (sym left) long)
-      (λ made e. left ∙ (same ∙ ap (λ (z : Put). z.multipliers) is.put_is ∙ ap (λ (z : Made). z.put.multipliers) (same_some (sym is.made_is ∙ e)))) r in
+      (is.made, is.made_is, left ∙ (same ∙ ap (λ (z : Put). z.multipliers) is.put_is)) r in
       record {
         spoke = keeps_phase run s2 Ended two;
         phase = refl;

@@ -1,5 +1,6 @@
 mod Closing
 mod FinishingSpoke
+pub mod FirstBest
 mod Leading
 mod Proceeding
 mod ReadLeading

@@ -1,9 +1,8 @@
 -- Where a step of a reading leads: it goes on, begins anew, or the put that was read is answered.
-use Rattle.std.proofs.Common.{arith, refl, sym, ap, ◌∙◌, subst, ◌≡◌, ◌≢◌, ℕ, ◌+◌, ◌/◌, ◌<◌, ◌≤◌, nat_eq, Bool, true, false, List, [], ◌∷◌, length, Option, Some, None, if◌then◌else◌}
+use Rattle.std.proofs.Common.{arith, refl, sym, ap, ◌∙◌, subst, ◌≡◌, ℕ, ◌+◌, ◌/◌, ◌<◌, ◌≤◌, nat_eq, Bool, true, false, List, [], ◌∷◌, length, Option, Some, None, if◌then◌else◌}
 use Rattle.std.proofs.lemmas.List.{length-append}
 use Rattle.run_calls.specs.MultiplierTests.{AreLong}
 use Rattle.sp_model.specs.declared.run.Run.{Run}
-use Rattle.put_words.specs.Puts.{Made, put_of}
 use Rattle.log_words.specs.Replies.{reply_of}
 use Rattle.log_words.specs.declared.log.Answer.{Answer}
 use Rattle.log_words.specs.declared.log.Answer.TheVariants.{Skip}
@@ -16,7 +15,7 @@ use Rattle.stamped_read.specs.declared.read.Read.{Read}
 use Rattle.stamped_read.specs.declared.read.Read.TheVariants as read
 use Rattle.stamped_read.specs.Readers.{Reader, begins, begins_told, due, due_begun, follows, follows_told, is_more, next, part, read_told, restarted, unfit, window_of}
 use Rattle.stamped_read.specs.declared.read.Again.TheVariants.{Torn}
-use Rattle.put_read.specs.Reads.{KeepsPut, ReadsPuts, TellsPut}
+use Rattle.put_read.specs.Reads.{IsPutAt, KeepsPut, ReadsPuts, TellsPut}
 use Rattle.put_read.specs.declared.reader.PutReader.{PutReader}
 use Rattle.lagrangian_spoke.specs.declared.spoke.Best.{Best}
 use Rattle.lagrangian_spoke.specs.declared.spoke.LagrangianSpoke.{LagrangianSpoke}
@@ -133,27 +132,23 @@ module _ (run : Run) (v v' : View) (s : LagrangianSpoke) (r' : PutReader) (h : S
     reads = on;
   }
 
-  module _ (k : ℕ) (there : (k : ℕ) → 1 ≤ k → put_of run k ≢ None) (tells : TellsPut run s.reader r' (read.Reading k)) where
+  module _ (k : ℕ) (tells : TellsPut run s.reader r' (read.Reading k)) where
     pub may_answer : IsPut run k
     may_answer = let newer = tells.0 in let few = tells.1 in record { first = omega arith; last = few }
 
     pub newer_put : last_put s.answers.items < k
     newer_put = let low = below_read in let newer = tells.0 in omega arith
 
-    made_put : (o : Option Made) → o ≢ None → (made : Made) × (o ≡ Some made)
-    made_put None no_none = absurd (no_none refl)
-    made_put (Some made) no_none = (made, refl)
-
     -- the put that was read is to be answered
     pub to_answer : IsToAnswer run (record s { reader = r' }) k
     to_answer =
         let may = may_answer in
-        let found = made_put (put_of run k) (there k may.first) in
+        let is = tells.3 in
         let few = h.spoke.counted in let room = h.spoke.room in let newer = newer_put in let last = may.last in
         record {
-          made = found.0;
-          made_is = found.1;
-          multipliers = ap (λ (z : Put). z.multipliers) (tells.3 found.0 found.1);
+          made = is.made;
+          made_is = is.made_is;
+          multipliers = ap (λ (z : Put). z.multipliers) is.put_is;
           is_put = may;
           room = omega arith;
           kind = h.spoke.kind;
@@ -172,7 +167,7 @@ module _ (run : Run) (v v' : View) (s : LagrangianSpoke) (r' : PutReader) (h : S
               put = subst (IsPut run) (sym same) may_answer;
               newer = omega arith;
               value = subst (λ (z : ℕ × ℕ). reply_of run z.0 z.1 ≡ Some s'.value) (λ i. (sym keeps.number i, sym same i)) found.value;
-              read = λ made e. ap (λ (z : PutReader). z.put) keeps.reader ∙ tells.3 made (ap (put_of run) (sym same) ∙ e);
+              read = subst (λ (z : ℕ × Put). IsPutAt run z.0 z.1) (λ i. (sym same i, (sym keeps.reader i).put)) tells.3;
             },
             subst (λ (z : PutReader). IsAtStart z.reader) (sym keeps.reader) start,
           );

@@ -1,6 +1,6 @@
 -- What a Lagrangian spoke answers, and the first best of its replies.
 
-use Rattle.std.specs.Prelude.{◌≡◌, ℕ, ◌+◌, ◌<◌, ◌≤◌, List, map, ℤ, Option, Some, None, int_lt, if◌then◌else◌}
+use Rattle.std.specs.Prelude.{◌≡◌, ℕ, ◌+◌, ◌<◌, ◌≤◌, List, map, slice_get, ℤ, ◌<ℤ◌, ◌≤ℤ◌, Option, Some, None, int_lt, if◌then◌else◌}
 use Rattle.std.specs.List.{All, AllPairs, filter_map, fold}
 use Rattle.branch_bound.specs.PlainSearch.{ref_count}
 use Rattle.dual_value.specs.Duals.{priced_in}
@@ -67,3 +67,18 @@ better best (Skip k s opened) = best
 -- the first greatest value of all replies, behind its put; none where no reply has a value
 abbrev pub best_reply : List Answer → Option (ℕ × ℤ)
 best_reply answers = fold better None answers
+
+-- a reply of this value to put k is the first greatest of all: none has a greater value, and each
+-- that stands before it a lower one
+pub record IsFirstGreatest (answers : List Answer) (k : ℕ) (value : ℤ) : Type 0 where
+  pub place : ℕ
+  pub there : slice_get answers place ≡ Some (Reply k (Some value))
+  pub greatest : (n j : ℕ) (other : ℤ) → slice_get answers n ≡ Some (Reply j (Some other))
+      → other ≤ℤ value
+  pub first : (n j : ℕ) (other : ℤ) → slice_get answers n ≡ Some (Reply j (Some other))
+      → n < place → other <ℤ value
+
+-- no reply has a value
+abbrev pub HaveNoValue : List Answer → Type 0
+HaveNoValue answers =
+    (n j : ℕ) (other : ℤ) → slice_get answers n ≡ Some (Reply j (Some other)) → ⊥

@@ -12,7 +12,7 @@ use Rattle.log_words.specs.Replies.{reply_of}
 use Rattle.log_words.specs.declared.log.Answer.{Answer}
 use Rattle.log_words.specs.declared.log.Answer.TheVariants.{Reply, Skip}
 use Rattle.log_words.specs.declared.log.Backing.{Backing}
-use Rattle.log_words.specs.declared.log.Backing.TheVariants.{Lower}
+use Rattle.log_words.specs.declared.log.Backing.TheVariants.{Lower, Upper}
 use Rattle.log_words.specs.declared.log.SpokeEnd.{SpokeEnd}
 use Rattle.log_words.specs.declared.log.SpokeKind.TheVariants.{Lagrangian}
 use Rattle.log_words.specs.declared.step.SpokeStep.{SpokeStep}
@@ -25,21 +25,26 @@ use Rattle.window_words.specs.declared.views.Call.TheVariants as call
 use Rattle.stamped_read.specs.Readers.{Reader, due, next, read_told}
 use Rattle.stamped_read.specs.declared.read.Read.{Read}
 use Rattle.stamped_read.specs.declared.read.Read.TheVariants as read
-use Rattle.put_read.specs.Reads.{ReadsPuts}
+use Rattle.put_read.specs.Reads.{IsPutAt, ReadsPuts}
 use Rattle.lagrangian_spoke.specs.declared.spoke.Best.{Best}
 use Rattle.lagrangian_spoke.specs.declared.spoke.Phase.{Phase}
 use Rattle.lagrangian_spoke.specs.declared.spoke.Phase.TheVariants.{Asks, Reads, Opens, Writes, Ended}
 use Rattle.lagrangian_spoke.specs.declared.spoke.LagrangianSpoke.{LagrangianSpoke}
-use Rattle.lagrangian_spoke.specs.Answering.{AreAnswers, IsPut, IsSpentAt, best_reply, last_put, replied}
+use Rattle.lagrangian_spoke.specs.Answering.{AreAnswers, HaveNoValue, IsFirstGreatest, IsPut, IsSpentAt, best_reply, last_put, replied}
 
 -- the last put that the spoke read whole
 abbrev pub read_last : LagrangianSpoke → ℕ
 read_last s = s.reader.reader.last
 
+-- the multipliers of put k of a run
+abbrev pub AreOfPut : Run → ℕ → Multipliers → Type 0
+AreOfPut run k multipliers =
+    (made : Made) × (put_of run k ≡ Some made) × (multipliers ≡ made.put.multipliers)
+
 -- the best is that of the answers, with the multipliers of its put, or there is none
 abbrev pub IsBestIf : Bool → Run → List Answer → Best → Type 0
 IsBestIf true run answers best = (best_reply answers ≡ Some (best.put, best.value))
-    × ((made : Made) → put_of run best.put ≡ Some made → best.multipliers ≡ made.put.multipliers)
+    × AreOfPut run best.put best.multipliers
 IsBestIf false run answers best = best_reply answers ≡ None
 
 abbrev pub IsBest : Run → List Answer → Best → Type 0
@@ -60,7 +65,7 @@ pub record IsReply (run : Run) (s : LagrangianSpoke) : Type 0 where
   pub put : IsPut run (read_last s)
   pub newer : last_put s.answers.items < read_last s
   pub value : reply_of run s.number (read_last s) ≡ Some s.value
-  pub read : (made : Made) → put_of run (read_last s) ≡ Some made → s.reader.put ≡ made.put
+  pub read : IsPutAt run (read_last s) s.reader.put
 
 -- no reading is begun
 pub record IsAtStart (r : Reader) : Type 0 where
@@ -160,10 +165,20 @@ Leads s s' n Opens step = (step ≡ told.Moved) × (s' ≡ record s { phase = Wr
 Leads s s' n (Writes m) step = WritesOn (nat_lt m 3) s s' m step
 Leads s s' n Ended step = ⊥
 
--- memory can be refused only behind a reading that is answered
-abbrev pub AnswersReading : LagrangianSpoke → ℕ → Type 0
-AnswersReading s n = (k : ℕ) × (s.phase ≡ Reads)
-    × (read_told (due s.reader.reader) s.reader.reader n ≡ read.Reading k)
+-- what was answered so far stays, and the best of it
+pub record KeepsAnswers (s s' : LagrangianSpoke) : Type 0 where
+  pub number : s'.number ≡ s.number
+  pub phase : s'.phase ≡ s.phase
+  pub answers : s'.answers ≡ s.answers
+  pub best : s'.best ≡ s.best
+
+-- memory can be refused only behind a reading that is answered; its put isn't answered then
+pub record IsRefusedReading (s s' : LagrangianSpoke) (n : ℕ) : Type 0 where
+  pub phase : s.phase ≡ Reads
+  pub put : ℕ
+  pub answered : read_told (due s.reader.reader) s.reader.reader n ≡ read.Reading put
+  pub reader : s'.reader.reader ≡ next (due s.reader.reader) s.reader.reader n
+  pub keeps : KeepsAnswers s s'
 
 -- a seat that owns window w alone, has closed nothing there and has nothing open, with a list for
 -- what it accepts of each leader
@@ -267,6 +282,12 @@ pub record HasFinished (run : Run) (s s' : LagrangianSpoke) (k : ℕ) : Type 0 w
   pub more : last_put s.answers.items < k
       → (a : Answer) × (s'.answers.items ≡ s.answers.items ++ a ∷ [])
 
+-- memory can be refused only where put k isn't answered yet, and then it stays unanswered
+pub record IsRefusedPut (s s' : LagrangianSpoke) (k : ℕ) : Type 0 where
+  pub newer : last_put s.answers.items < k
+  pub reader : s'.reader.reader ≡ s.reader.reader
+  pub keeps : KeepsAnswers s s'
+
 -- what an ended spoke leaves: its answers, and its best where there is one
 abbrev pub backing_of : Best → Option Backing
 backing_of best = if best.found
@@ -276,3 +297,11 @@ pub record IsEnd (s : LagrangianSpoke) (left : SpokeEnd) : Type 0 where
   pub kind : left.log.kind ≡ Lagrangian
   pub answers : left.log.answers ≡ s.answers.items
   pub best : left.best ≡ backing_of s.best
+
+-- what backs the best reply among some answers: the first greatest value, with its put and that
+-- put's multipliers; nothing where no reply has a value
+abbrev pub BacksBest : Run → List Answer → Option Backing → Type 0
+BacksBest run answers None = HaveNoValue answers
+BacksBest run answers (Some (Lower k value multipliers)) =
+    IsFirstGreatest answers k value × AreOfPut run k multipliers
+BacksBest run answers (Some (Upper k value plan)) = ⊥

@@ -1,6 +1,6 @@
-ghost use Rattle.std.specs.Prelude.{◌≡◌, ◌≤◌, OnOk};
+ghost use Rattle.std.specs.Prelude.{◌≡◌, ◌≤◌, OnErr, OnOk};
 ghost use Rattle.lagrangian_spoke.specs.Answering.{last_put};
-ghost use Rattle.lagrangian_spoke.specs.Spokes.{HasFinished, IsPutOf, IsEnd, IsSpoke};
+ghost use Rattle.lagrangian_spoke.specs.Spokes.{HasFinished, IsPutOf, IsEnd, IsRefusedPut, IsSpoke};
 ghost use Rattle.lagrangian_spoke.specs.declared.spoke.Phase.TheVariants.{Ended};
 
 use crate::spoke::{LagrangianSpoke, Phase};
@@ -24,14 +24,16 @@ fn last_answered(answers: &[Answer]) -> u64
 impl LagrangianSpoke {
     /// Answers a put of the run directly, and not through a window: the last put,
     /// of which the spoke may not have read a word. It does nothing where that
-    /// put is the last that was answered. Where memory is refused, the spoke is
-    /// not to be used again.
+    /// put is the last that was answered. Memory can be refused only to the search
+    /// for the put's dual value; the answers and the best stay then, and the spoke
+    /// is not to be used again.
     pub fn finish(&mut self, alloc: Global, run: &Run, put: &Put) -> Result<(), AllocError>
         requires ended { self.old.phase ≡ Ended }
         requires spoke { IsSpoke run.now self.old }
         requires put { IsPutOf run.now put.now }
         requires newer { last_put self.old.answers.items ≤ put.now.number }
-        ensures { OnOk result (HasFinished run.now self.old self.new put.now.number) }
+        ensures ok { OnOk result (HasFinished run.now self.old self.new put.now.number) }
+        ensures err { OnErr result (IsRefusedPut self.old self.new put.now.number) }
     {
         if last_answered(self.answers.items()) == put.number {
             return Ok(());

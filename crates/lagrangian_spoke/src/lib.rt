@@ -3,6 +3,7 @@
 #![tactic(auto)]
 
 mod finishing;
+mod laws;
 mod reading;
 mod spoke;
 mod starting;
@@ -10,4 +11,5 @@ mod stepping;
 mod working;
 mod writing;
 
+pub use laws::best_is_first_greatest;
 pub use spoke::{Best, LagrangianSpoke, Phase};

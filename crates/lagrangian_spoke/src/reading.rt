@@ -1,5 +1,5 @@
 ghost use Rattle.std.specs.Prelude.{◌≡◌, ◌+◌, ℕ, OnErr, IfOk};
-ghost use Rattle.lagrangian_spoke.specs.Spokes.{AnswersReading, Calls, Leads, StandsFor, due_in};
+ghost use Rattle.lagrangian_spoke.specs.Spokes.{Calls, IsRefusedReading, Leads, StandsFor, due_in};
 ghost use Rattle.lagrangian_spoke.specs.declared.spoke.Phase.TheVariants.{Reads};
 
 use crate::spoke::{LagrangianSpoke, Phase};
@@ -13,7 +13,7 @@ use window_words::Board;
 impl LagrangianSpoke {
     /// Makes the next step of the reading. Behind the last one the spoke works
     /// out its reply, or skips the put where a search is spent.
-    pub fn read<B: Board<Of = RunMeaning>>(
+    pub(crate) fn read<B: Board<Of = RunMeaning>>(
         &mut self,
         alloc: Global,
         run: &Run,
@@ -27,7 +27,7 @@ impl LagrangianSpoke {
         ensures made { (n : ℕ) × Calls B.leaves B.view (B.of board.old).layout.ranks
             board.old board.new (due_in self.old self.old.phase) n
             × IfOk result (Leads self.old self.new n self.old.phase)
-            × OnErr result (AnswersReading self.old n) }
+            × OnErr result (IsRefusedReading self.old self.new n) }
     {
         match self.reader.step(board) {
             Read::Going => Ok(SpokeStep::Moved),

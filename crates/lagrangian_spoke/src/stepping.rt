@@ -1,5 +1,5 @@
 ghost use Rattle.std.specs.Prelude.{◌≡◌, ◌≢◌, ◌+◌, ℕ, OnErr, IfOk};
-ghost use Rattle.lagrangian_spoke.specs.Spokes.{AnswersReading, Calls, Leads, StandsFor, due_in};
+ghost use Rattle.lagrangian_spoke.specs.Spokes.{Calls, IsRefusedReading, Leads, StandsFor, due_in};
 ghost use Rattle.lagrangian_spoke.specs.declared.spoke.Phase.TheVariants.{Ended};
 
 use crate::spoke::{LagrangianSpoke, Phase};
@@ -27,7 +27,7 @@ impl LagrangianSpoke {
         ensures made { (n : ℕ) × Calls B.leaves B.view (B.of board.old).layout.ranks
             board.old board.new (due_in self.old self.old.phase) n
             × IfOk result (Leads self.old self.new n self.old.phase)
-            × OnErr result (AnswersReading self.old n) }
+            × OnErr result (IsRefusedReading self.old self.new n) }
     {
         match self.phase {
             Phase::Asks => Ok(self.ask(board)),

@@ -1,4 +1,4 @@
-ghost use Rattle.std.specs.Prelude.{◌≡◌, ◌+◌, ◌<◌, ◌++◌, ◌∷◌, [], length, Some, IfOk};
+ghost use Rattle.std.specs.Prelude.{◌≡◌, ◌+◌, ◌<◌, ◌++◌, ◌∷◌, [], length, Some, IfOk, OnErr};
 ghost use Rattle.lagrangian_spoke.specs.Spokes.{IsWorkedOut, IsToAnswer, Keeps, Records};
 ghost use Rattle.log_words.specs.declared.log.Answer.TheVariants.{Reply};
 
@@ -12,9 +12,15 @@ use std::mem;
 impl LagrangianSpoke {
     /// Works out the answer to a put, whose multipliers the reader has, and whether
     /// a reply is found, which is then to be written; the put is skipped else.
-    pub fn work_out(&mut self, alloc: Global, run: &Run, put: u64) -> Result<bool, AllocError>
+    pub(crate) fn work_out(
+        &mut self,
+        alloc: Global,
+        run: &Run,
+        put: u64,
+    ) -> Result<bool, AllocError>
         requires { IsToAnswer run.now self.old put }
-        ensures { IfOk result (IsWorkedOut run.now self.old self.new put) }
+        ensures ok { IfOk result (IsWorkedOut run.now self.old self.new put) }
+        ensures err { OnErr result (self.new ≡ self.old) }
     {
         match dual(alloc, run, &self.reader.put.multipliers, run.options.budget) {
             Ok(value) => {
@@ -38,7 +44,7 @@ impl LagrangianSpoke {
 
     /// Takes the reply among the answers, and its multipliers where it is better
     /// than all before.
-    pub fn record(&mut self, put: u64)
+    pub(crate) fn record(&mut self, put: u64)
         requires { 0 < self.old.answers.spare }
         ensures { Records self.old self.new put }
     {

@@ -11,7 +11,7 @@ use word_codec::reply_word;
 
 impl LagrangianSpoke {
     /// Asks whether the hub has stopped.
-    pub fn ask<B: Board<Of = RunMeaning>>(&mut self, board: &mut B) -> SpokeStep
+    pub(crate) fn ask<B: Board<Of = RunMeaning>>(&mut self, board: &mut B) -> SpokeStep
         requires phase { self.old.phase ≡ Asks }
         requires stands { StandsFor (B.of board.old).run.value (B.view board.old) self.old }
         ensures same { B.of board.new ≡ B.of board.old }
@@ -29,7 +29,7 @@ impl LagrangianSpoke {
     }
 
     /// Opens the reply.
-    pub fn open<B: Board<Of = RunMeaning>>(&mut self, board: &mut B) -> SpokeStep
+    pub(crate) fn open<B: Board<Of = RunMeaning>>(&mut self, board: &mut B) -> SpokeStep
         requires phase { self.old.phase ≡ Opens }
         requires stands { StandsFor (B.of board.old).run.value (B.view board.old) self.old }
         ensures same { B.of board.new ≡ B.of board.old }
@@ -44,7 +44,11 @@ impl LagrangianSpoke {
     }
 
     /// Puts a word of the reply.
-    pub fn write<B: Board<Of = RunMeaning>>(&mut self, words: usize, board: &mut B) -> SpokeStep
+    pub(crate) fn write<B: Board<Of = RunMeaning>>(
+        &mut self,
+        words: usize,
+        board: &mut B,
+    ) -> SpokeStep
         requires phase { self.old.phase ≡ Writes words }
         requires left { words < 3 }
         requires stands { StandsFor (B.of board.old).run.value (B.view board.old) self.old }
@@ -60,7 +64,7 @@ impl LagrangianSpoke {
     }
 
     /// Closes the reply, which is an answer from now on.
-    pub fn close<B: Board<Of = RunMeaning>>(&mut self, board: &mut B) -> SpokeStep
+    pub(crate) fn close<B: Board<Of = RunMeaning>>(&mut self, board: &mut B) -> SpokeStep
         requires phase { self.old.phase ≡ Writes 3 }
         requires stands { StandsFor (B.of board.old).run.value (B.view board.old) self.old }
         ensures same { B.of board.new ≡ B.of board.old }

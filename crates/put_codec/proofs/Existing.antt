@@ -1,7 +1,7 @@
 -- Where each scenario has a point, each put is there.
 use Rattle.std.proofs.Common.{arith, refl, sym, ap, ◌∙◌, subst, ◌≡◌, ℕ, zero, suc, ◌+◌, ◌<◌, ◌≤◌, List, ℤ, Option, Some, None}
 use Rattle.boxed_problem.specs.Data.{Problem}
-use Rattle.boxed_problem.specs.Optimum.{Feasible, best_of}
+use Rattle.boxed_problem.specs.Optimum.{Feasible}
 use Rattle.boxed_problem.specs.Sides.{Filled}
 use Rattle.boxed_problem.proofs.Optimal.{best_is}
 use Rattle.sp_model.specs.Problems.{problem_in, scenarios}

@@ -1,33 +1,22 @@
 -- The entries of a run's windows have the width of their windows, and the cells of each put can be spelled.
-use Rattle.std.proofs.Common.{arith, refl, sym, ap, ◌∙◌, subst, ◌≡◌, ℕ, zero, suc, ◌+◌, ◌*◌, ◌-◌, ◌/◌, ◌%◌, ◌<◌, ◌≤◌, ◌^◌, nat_lt, Bool, true, false, List, [], length, get_or, ℤ, pos, Option, Some, None, unsigned_abs, FitsSigned, if◌then◌else◌}
-use Rattle.std.specs.Int.{w128}
+use Rattle.std.proofs.Common.{arith, refl, sym, ap, ◌∙◌, ◌≡◌, ℕ, ◌+◌, ◌*◌, ◌-◌, ◌≤◌, nat_lt, Bool, true, false, [], length, ℤ, Option, Some, None, if◌then◌else◌}
 use Rattle.std.specs.Option.{option_map_or}
-use Rattle.std.proofs.lemmas.Int.{ints}
-use Rattle.base_words.specs.Sums.{number_at}
-use Rattle.base_words.proofs.Magnitudes.{fits_from_abs}
-use Rattle.word_codec.specs.Spelling.{IsValue, reply_words}
-use Rattle.window_words.specs.Conditions.{AreEntriesWide}
-use Rattle.run_calls.specs.MultiplierTests.{AreLong, AreSized}
-use Rattle.run_calls.proofs.MostBounds.{box_small, early_column, most_small}
-use Rattle.sp_model.specs.Plans.{multiplier_of}
+use Rattle.word_codec.specs.Spelling.{reply_words}
 use Rattle.sp_model.specs.Problems.{scenarios}
 use Rattle.sp_model.specs.ScenarioPoints.{HavePoints}
 use Rattle.sp_model.specs.declared.run.Run.{Run}
-use Rattle.put_words.specs.NodeSums.{AreInside, value_at}
 use Rattle.put_words.specs.Puts.{Made, put_of}
-use Rattle.put_words.proofs.Inside.{put_inside, put_long}
-use Rattle.put_words.proofs.Rises.{put_sized}
 use Rattle.log_words.specs.Replies.{reply_of}
 use Rattle.put_codec.specs.declared.layout.Layout.{Layout}
-use Rattle.put_codec.specs.Entries.{FitsLayout, IsSpelled, MeansRun, entry_of, part_of, part_words, words_at}
-use Rattle.put_codec.specs.Layouts.{all_cells, cells_of, layout_in, start_of, width_of, windows_of}
+use Rattle.put_codec.specs.Entries.{MeansRun, entry_of, part_of, part_words, words_at}
+use Rattle.put_codec.specs.Layouts.{cells_of, layout_in, start_of, width_of}
 use Rattle.put_codec.proofs.Existing.{put_there}
 use Rattle.put_codec.proofs.Pieces.{pieces_length}
 
 pub part_length : (layout : Layout) (i : ℕ) (put : _) → length (part_words layout i put) ≡ 3 * cells_of layout i
 part_length layout i put = omega (arith, pieces_length 3 (λ c. words_at put (start_of layout i + c)) (λ c. refl) (cells_of layout i))
 
-reply_length : (o : Option ℤ) → length (reply_words o) ≡ 3
+pub reply_length : (o : Option ℤ) → length (reply_words o) ≡ 3
 reply_length None = refl
 reply_length (Some v) = refl
 

@@ -1,5 +1,5 @@
 -- The cells of each put that a run makes can be spelled.
-use Rattle.std.proofs.Common.{arith, refl, sym, ap, ◌∙◌, subst, ◌≡◌, ℕ, ◌+◌, ◌*◌, ◌/◌, ◌%◌, ◌<◌, ◌≤◌, nat_lt, Bool, true, false, List, length, ℤ, pos, Some, unsigned_abs, FitsSigned, if◌then◌else◌, ◌⊎◌, ⊎_elim, inl, inr, ◌≤ℤ◌}
+use Rattle.std.proofs.Common.{arith, sym, ap, subst, ◌≡◌, ℕ, ◌+◌, ◌*◌, ◌/◌, ◌%◌, ◌<◌, ◌≤◌, nat_lt, Bool, true, false, List, length, ℤ, pos, Some, unsigned_abs, FitsSigned, if◌then◌else◌, ◌⊎◌, ⊎_elim, inl, inr, ◌≤ℤ◌}
 use Rattle.std.specs.Int.{w128}
 use Rattle.std.proofs.lemmas.Int.{ints}
 use Rattle.std.proofs.lemmas.Bool.{cases_lt}

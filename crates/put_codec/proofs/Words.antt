@@ -1,5 +1,5 @@
 -- Where the words of a rank's part stand.
-use Rattle.std.proofs.Common.{arith, refl, sym, ap, ◌∙◌, ◌≡◌, ℕ, ◌+◌, ◌*◌, ◌/◌, ◌%◌, ◌<◌, get_or, ℤ}
+use Rattle.std.proofs.Common.{arith, refl, sym, ap, ◌∙◌, ◌≡◌, ℕ, ◌+◌, ◌/◌, ◌%◌, ◌<◌, get_or, ℤ}
 use Rattle.std.proofs.lemmas.Nat.{div-add-mod'}
 use Rattle.base_words.specs.Sums.{number_at}
 use Rattle.word_codec.specs.Spelling.{cell_words}

@@ -7,7 +7,7 @@ mod layout;
 mod parts;
 mod run_meaning;
 
-pub use laws::{puts_are_spelled, puts_are_there};
+pub use laws::{puts_are_spelled, puts_are_there, replies_are_spelled};
 pub use layout::{Layout, cells, layout_of, start};
 pub use parts::part_word;
 pub use run_meaning::{RunMeaning, meaning};

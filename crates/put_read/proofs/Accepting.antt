@@ -60,6 +60,11 @@ module _ (r : Reader) (n : ℕ) (h : IsReader r) where
   pub stays_reader : IsReader (next (due r) r n)
   stays_reader = step_facts r.begun (nat_eq (part r r.rank).spare 0) refl
 
+-- a reading is whole where its two stamps are the same
+pub whole_test : (r : Reader) (n : ℕ) (t : Bool) → IsNewer r.last r.first → nat_eq n r.first ≡ t → is_whole r.first n ≡ t
+whole_test r n true newer e = let even = newer.even in let more = newer.newer in let same = eqb-true n r.first e in grind (arith, nat_tests)
+whole_test r n false newer e = grind (arith, nat_tests)
+
 -- what the seat has accepted after a step
 module _ (leaders : ℕ) (v : View) (r : Reader) (n : ℕ) (h : Accepts leaders v.accepted r) (facts : IsReader r) (first : r.window ≡ 0) (many : length r.parts ≡ leaders)
     (reading : r.begun ≡ true → v.reading ≡ Some record { window = window_of r; first = r.first; words = words_of r r.rank }) where
@@ -110,14 +115,10 @@ module _ (leaders : ℕ) (v : View) (r : Reader) (n : ℕ) (h : Accepts leaders 
   same_view false true lead same newer w l = absurd (cc)
   same_view true true false same newer w l = absurd (cc)
 
-  whole_test : (t : Bool) → IsNewer r.last r.first → nat_eq n r.first ≡ t → is_whole r.first n ≡ t
-  whole_test true newer e = let even = newer.even in let more = newer.newer in let same = eqb-true n r.first e in grind (arith, nat_tests)
-  whole_test false newer e = grind (arith, nat_tests)
-
   end_accepts : r.begun ≡ true → Accepts leaders (after leaders (call.End (window_of r)) n v).accepted (ends r n)
   end_accepts b = let newer = facts.begins_newer b in
       subst (λ (o : Option Reading). Accepts leaders (ended leaders n v o).accepted (ends r n)) (sym (reading b))
-      (same_view (nat_eq n r.first) (is_whole r.first n) (nat_lt (window_of r) leaders) (eqb-true n r.first) newer (whole_test (nat_eq n r.first) newer refl) is_leader)
+      (same_view (nat_eq n r.first) (is_whole r.first n) (nat_lt (window_of r) leaders) (eqb-true n r.first) newer (whole_test r n (nat_eq n r.first) newer refl) is_leader)
 
   step_accepts : (b full : Bool) → r.begun ≡ b → Accepts leaders (after leaders (if b then due_begun full (window_of r) else call.Begin (window_of r)) n v).accepted (next (if b then due_begun full (window_of r) else call.Begin (window_of r)) r n)
   step_accepts false full e = begin_accepts (unfit r n) refl

@@ -1,4 +1,5 @@
 mod Accepting
 mod CellWords
 pub mod Putting
+mod SpokeReading
 mod Taking

@@ -1,5 +1,5 @@
 -- A put is filled part after part, and a reading of a run's windows is one of its puts.
-use Rattle.std.proofs.Common.{arith, sym, ap, ◌∙◌, subst, ◌≡◌, ℕ, ◌+◌, ◌-◌, ◌*◌, ◌/◌, ◌<◌, ◌≤◌, ◌^◌, Bool, false, List, [], length, ℤ, Some, if◌then◌else◌}
+use Rattle.std.proofs.Common.{arith, refl, sym, ap, ◌∙◌, subst, ◌≡◌, ◌≢◌, ℕ, ◌+◌, ◌-◌, ◌*◌, ◌/◌, ◌<◌, ◌≤◌, ◌^◌, Bool, false, List, [], length, ℤ, Option, Some, None, if◌then◌else◌}
 use Rattle.std.specs.Option.{option_map_or}
 use Rattle.std.proofs.Math.Nat.{zero-div}
 use Rattle.word_codec.specs.Spelling.{reply_words}
@@ -108,7 +108,7 @@ fresh_any entry entry' wide count count' v s more b z h = record {
   parts = λ i l. absurd (omega arith);
 }
 
-fresh_facts : (s : Reader) → 0 < length s.parts → s.begun ≡ false → s.rank ≡ 0 → IsReader s
+pub fresh_facts : (s : Reader) → 0 < length s.parts → s.begun ≡ false → s.rank ≡ 0 → IsReader s
 fresh_facts s some b z = record { below = omega arith; begins_newer = λ t. absurd (cc); follows_newer = λ l. absurd (omega arith) }
 
 fresh_accepts : (leaders : ℕ) (v : View) (s : Reader) → leaders ≤ length v.accepted → s.rank ≡ 0 → s.last ≡ 0 → Accepts leaders v.accepted s
@@ -168,20 +168,28 @@ pub ranks_there : (run : Run) (r : PutReader) (v : View) → ReadsPuts run v r �
 ranks_there run r v h = let some = run.facts.options_fit.some_ranks in let same = ap (λ (z : Layout). z.ranks) h.layout_is in let many = h.many in (omega arith, omega arith)
 
 -- the put that was read
-pub reading_tells : (run : Run) (v : View) (r : PutReader) (s' : Reader) (put' : Put) (most k : ℕ) → ReadsPuts run v r → most ≡ run.options.iterations + 1 → TellsWhole (entry_of run) most r.reader s' (read.Reading k)
+made_there : (o : Option Made) → o ≢ None → (made : Made) × (o ≡ Some made)
+made_there None some = absurd (some refl)
+made_there (Some made) some = (made, refl)
+
+pub reading_tells : (run : Run) (v : View) (r : PutReader) (s' : Reader) (put' : Put) (most k : ℕ) → ReadsPuts run v r → most ≡ run.options.iterations + 1 → ((k : ℕ) → 1 ≤ k → put_of run k ≢ None) → TellsWhole (entry_of run) most r.reader s' (read.Reading k)
     → ((given : Put) → IsSpelled given → FitsLayout r.layout given → given.number ≡ k → HasParts r.layout s' given → put' ≡ given) → TellsPut run r record { reader = s'; layout = r.layout; put = put' } (read.Reading k)
-reading_tells run v r s' put' most k h last whole filled = (
-  whole.0,
-  omega (arith, whole.1),
-  whole.2,
-  λ made e.
-      let few : k ≤ run.options.iterations + 1 = omega (arith, whole.1) in
-      let parts : HasParts (layout_in run) s' made.put = λ i l.
-      let there : i < length r.reader.parts = let many = h.many in omega arith in
-      let at : r.reader.window + i ≡ i = let begins = h.begins in omega arith in
-      whole.3 i there ∙ (ap (λ w. entry_of run w k) at ∙ rank_entry run i k made l e) in
-      filled made.put (put_spelled run k made few e) (subst (λ z. FitsLayout z made.put) (sym h.layout_is) (put_fits run k made e)) (put_number run k made e) (subst (λ z. HasParts z s' made.put) (sym h.layout_is) parts),
-)
+reading_tells run v r s' put' most k h last some whole filled =
+    let few : k ≤ run.options.iterations + 1 = omega (arith, whole.1) in
+    let newer = whole.0 in
+    let there = made_there (put_of run k) (some k (omega arith)) in
+    let made = there.0 in
+    let parts : HasParts (layout_in run) s' made.put = λ i l.
+    let window : i < length r.reader.parts = let many = h.many in omega arith in
+    let at : r.reader.window + i ≡ i = let begins = h.begins in omega arith in
+    whole.3 i window ∙ (ap (λ w. entry_of run w k) at ∙ rank_entry run i k made l there.1) in
+    let number = put_number run k made there.1 in
+    let same = filled made.put (put_spelled run k made few there.1) (subst (λ z. FitsLayout z made.put) (sym h.layout_is) (put_fits run k made there.1)) number (subst (λ z. HasParts z s' made.put) (sym h.layout_is) parts) in (
+      newer,
+      few,
+      whole.2,
+      record { number = ap (λ (z : Put). z.number) same ∙ number; made = made; made_is = there.1; put_is = same },
+    )
 
 pub cells_few : (run : Run) (v : View) (r : PutReader) → ReadsPuts run v r → all_cells r.layout < 2 ^ 64
 cells_few run v r h = let few = run.facts.counts.nonleaf_cells in let same = ap all_cells h.layout_is in omega arith

@@ -1,11 +1,14 @@
 pub mod Cells
 pub mod Reads
+pub mod SpokeReads
 pub use Rattle.base_words.specs.Sums
+pub use Rattle.log_words.specs.Replies
 pub use Rattle.put_codec.specs.Entries
 pub use Rattle.put_codec.specs.Layouts
 pub use Rattle.put_words.specs.Puts
 pub use Rattle.stamped_read.specs.Promises
 pub use Rattle.stamped_read.specs.Readers
+pub use Rattle.wide_num.specs.RoomContents
 pub use Rattle.word_codec.specs.Spelling
 pub use Rattle.window_words.specs.Conditions
 pub use Rattle.window_words.specs.Views

@@ -58,13 +58,20 @@ pub record KeepsPut (r r' : PutReader) : Type 0 where
   pub put : r'.put ≡ r.put
   pub last : r'.reader.last ≡ r.reader.last
 
+-- put k of a run
+pub record IsPutAt (run : Run) (k : ℕ) (put : Put) : Type 0 where
+  pub number : put.number ≡ k
+  pub made : Made
+  pub made_is : put_of run k ≡ Some made
+  pub put_is : put ≡ made.put
+
 -- a reading that is answered is put k of the run, newer than the last; no other answer changes the
 -- put that was read last
 abbrev pub TellsPut : Run → PutReader → PutReader → Read → Type 0
 TellsPut run r r' read.Going = KeepsPut r r'
 TellsPut run r r' (read.Reading k) =
     (r.reader.last < k) × (k ≤ run.options.iterations + 1) × (r'.reader.last ≡ k)
-    × ((made : Made) → put_of run k ≡ Some made → r'.put ≡ made.put)
+    × IsPutAt run k r'.put
 TellsPut run r r' (read.Again again) = KeepsPut r r'
 
 -- a reader has the parts of a put

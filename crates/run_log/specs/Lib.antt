@@ -5,6 +5,7 @@ pub use Rattle.branch_bound.specs.PlainSearch
 pub use Rattle.dual_value.specs.Duals
 pub use Rattle.agreement.specs.Agreeing
 pub use Rattle.lagrangian_spoke.specs.Answering
+pub use Rattle.lagrangian_spoke.specs.Spokes
 pub use Rattle.log_words.specs.Replies
 pub use Rattle.put_words.specs.Hedged
 pub use Rattle.put_words.specs.NextMultipliers

@@ -2,6 +2,8 @@
 //! behind each, its end, and what the spokes answered; and what log a run may have.
 #![tactic(auto)]
 
+mod laws;
 mod log;
 
+pub use laws::spokes_leave_logs;
 pub use log::{End, Event, Log, Source, Upper};

@@ -14,7 +14,9 @@ use Rattle.run_calls.specs.declared.put.Put.{Put}
 use Rattle.put_codec.specs.Layouts.{layout_in, width_of, windows_of}
 use Rattle.put_codec.specs.declared.run_meaning.RunMeaning.{RunMeaning}
 use Rattle.put_read.specs.Reads.{ReadsPuts}
+use Rattle.put_read.specs.SpokeReads.{IsSpokeWindow, ReadsSpoke}
 use Rattle.put_read.specs.declared.reader.PutReader.{PutReader}
+use Rattle.put_read.specs.declared.spokes.SpokeReader.{SpokeReader}
 use Rattle.lagrangian_spoke.specs.Spokes.{IsNewSeat, IsPutOf, StandsFor}
 use Rattle.lagrangian_spoke.specs.declared.spoke.LagrangianSpoke.{LagrangianSpoke}
 use Rattle.spoke_tests.specs.Benches.{AreSeated}
@@ -29,7 +31,7 @@ each_rank P nexts steps n w next step l m others mine u below = dite (ℕ_discre
     (subst (λ (z : ℕ × ℕ). P w z.0 z.1) (λ i. (sym (get_or-set_same nexts w next 0 l) i, sym (get_or-set_same steps w step 0 m) i)) mine))
     (λ (e : u ≢ w). subst (λ (z : ℕ × ℕ). P u z.0 z.1) (λ i. (sym (get_or-set_other nexts w u next 0 e) i, sym (get_or-set_other steps w u step 0 e) i)) (others u below e))
 
-module _ (run : Run) (b b' : Boards) (s : LagrangianSpoke) (r : PutReader) (puts : List Put) (nexts steps : List ℕ) (stopped : Bool) (h : AreSeated run b s r puts nexts steps stopped) where
+module _ (run : Run) (b b' : Boards) (s : LagrangianSpoke) (r : PutReader) (p : SpokeReader) (puts : List Put) (nexts steps : List ℕ) (stopped : Bool) (h : AreSeated run b s r p puts nexts steps stopped) where
   -- a rank's step
   module _ (w : ℕ) (below : w < run.options.ranks) (stays : StaysBut (w + 1) b b') where
     next_there : w < length nexts
@@ -38,7 +40,7 @@ module _ (run : Run) (b b' : Boards) (s : LagrangianSpoke) (r : PutReader) (puts
     step_there : w < length steps
     step_there = let few = h.ranks in let two = h.two.1 in omega arith
 
-    wrote : (next step : ℕ) → step < width_of (layout_in run) w + 2 → WritesAt (width_of (layout_in run) w) w next step (viewed b' (w + 1)) → AreSeated run b' s r puts (set nexts w next) (set steps w step) stopped
+    wrote : (next step : ℕ) → step < width_of (layout_in run) w + 2 → WritesAt (width_of (layout_in run) w) w next step (viewed b' (w + 1)) → AreSeated run b' s r p puts (set nexts w next) (set steps w step) stopped
     wrote next step few writes = record {
       board = board_on (w + 1) b b' stays run h.board;
       ranks = h.ranks;
@@ -50,13 +52,14 @@ module _ (run : Run) (b b' : Boards) (s : LagrangianSpoke) (r : PutReader) (puts
           (λ u under other. seat_on (w + 1) b b' stays (WritesAt (width_of (layout_in run) u) u (get_or nexts u 0) (get_or steps u 0)) (u + 1) (λ e. other (omega arith)) (h.writes u under)) writes;
       spoke = seat_on (w + 1) b b' stays (λ v. StandsFor run v s) (run.options.ranks + 1) (λ e. omega arith) h.spoke;
       reader = seat_on (w + 1) b b' stays (λ v. ReadsPuts run v r) (run.options.ranks + 2) (λ e. omega arith) h.reader;
+      poll = seat_on (w + 1) b b' stays (λ v. ReadsSpoke run v p) (run.options.ranks + 3) (λ e. omega arith) h.poll;
       hub = seat_on (w + 1) b b' stays (λ v. v.hub ≡ true) 0 (λ e. omega arith) h.hub;
       free = λ still. seat_on (w + 1) b b' stays (λ v. v.stopped ≡ 0) 0 (λ e. omega arith) (h.free still);
     }
 
     -- after one more step of the rank, counted
     pub stepped : (next' step' : ℕ) → (get_or steps w 0 ≡ width_of (layout_in run) w + 1 → (next' ≡ get_or nexts w 0 + 1) × (step' ≡ 0)) → (get_or steps w 0 < width_of (layout_in run) w + 1 → (next' ≡ get_or nexts w 0) × (step' ≡ get_or steps w 0 + 1))
-        → WritesAt (width_of (layout_in run) w) w (get_or nexts w 0) (get_or steps w 0 + 1) (viewed b' (w + 1)) → AreSeated run b' s r puts (set nexts w next') (set steps w step') stopped
+        → WritesAt (width_of (layout_in run) w) w (get_or nexts w 0) (get_or steps w 0 + 1) (viewed b' (w + 1)) → AreSeated run b' s r p puts (set nexts w next') (set steps w step') stopped
     stepped next' step' closed goes writes = let fits = h.made w below in dite (ℕ_discrete (get_or steps w 0) (width_of (layout_in run) w + 1))
         (λ (e : get_or steps w 0 ≡ width_of (layout_in run) w + 1). let c = closed e in let is = c.0 in let none = c.1 in wrote next' step' (omega arith)
         (subst (λ (z : ℕ × ℕ). WritesAt (width_of (layout_in run) w) w z.0 z.1 (viewed b' (w + 1))) (λ i. (sym is i, sym none i)) (wrote_none (width_of (layout_in run) w) w (get_or nexts w 0 + 1) (viewed b' (w + 1)) (writes.behind (omega arith)))))
@@ -64,7 +67,7 @@ module _ (run : Run) (b b' : Boards) (s : LagrangianSpoke) (r : PutReader) (puts
         (subst (λ (z : ℕ × ℕ). WritesAt (width_of (layout_in run) w) w z.0 z.1 (viewed b' (w + 1))) (λ i. (sym is i, sym one i)) writes))
 
   -- the spoke's step
-  pub replied : (s' : LagrangianSpoke) → StandsFor run (viewed b' (run.options.ranks + 1)) s' → StaysBut (run.options.ranks + 1) b b' → AreSeated run b' s' r puts nexts steps stopped
+  pub replied : (s' : LagrangianSpoke) → StandsFor run (viewed b' (run.options.ranks + 1)) s' → StaysBut (run.options.ranks + 1) b b' → AreSeated run b' s' r p puts nexts steps stopped
   replied s' stands stays = record {
     board = board_on (run.options.ranks + 1) b b' stays run h.board;
     ranks = h.ranks;
@@ -75,12 +78,13 @@ module _ (run : Run) (b b' : Boards) (s : LagrangianSpoke) (r : PutReader) (puts
     writes = λ w below. seat_on (run.options.ranks + 1) b b' stays (WritesAt (width_of (layout_in run) w) w (get_or nexts w 0) (get_or steps w 0)) (w + 1) (λ e. omega arith) (h.writes w below);
     spoke = stands;
     reader = seat_on (run.options.ranks + 1) b b' stays (λ v. ReadsPuts run v r) (run.options.ranks + 2) (λ e. omega arith) h.reader;
+    poll = seat_on (run.options.ranks + 1) b b' stays (λ v. ReadsSpoke run v p) (run.options.ranks + 3) (λ e. omega arith) h.poll;
     hub = seat_on (run.options.ranks + 1) b b' stays (λ v. v.hub ≡ true) 0 (λ e. omega arith) h.hub;
     free = λ still. seat_on (run.options.ranks + 1) b b' stays (λ v. v.stopped ≡ 0) 0 (λ e. omega arith) (h.free still);
   }
 
   -- the reader's step
-  pub has_read : (r' : PutReader) → ReadsPuts run (viewed b' (run.options.ranks + 2)) r' → StaysBut (run.options.ranks + 2) b b' → AreSeated run b' s r' puts nexts steps stopped
+  pub has_read : (r' : PutReader) → ReadsPuts run (viewed b' (run.options.ranks + 2)) r' → StaysBut (run.options.ranks + 2) b b' → AreSeated run b' s r' p puts nexts steps stopped
   has_read r' reads stays = record {
     board = board_on (run.options.ranks + 2) b b' stays run h.board;
     ranks = h.ranks;
@@ -91,12 +95,30 @@ module _ (run : Run) (b b' : Boards) (s : LagrangianSpoke) (r : PutReader) (puts
     writes = λ w below. seat_on (run.options.ranks + 2) b b' stays (WritesAt (width_of (layout_in run) w) w (get_or nexts w 0) (get_or steps w 0)) (w + 1) (λ e. omega arith) (h.writes w below);
     spoke = seat_on (run.options.ranks + 2) b b' stays (λ v. StandsFor run v s) (run.options.ranks + 1) (λ e. omega arith) h.spoke;
     reader = reads;
+    poll = seat_on (run.options.ranks + 2) b b' stays (λ v. ReadsSpoke run v p) (run.options.ranks + 3) (λ e. omega arith) h.poll;
     hub = seat_on (run.options.ranks + 2) b b' stays (λ v. v.hub ≡ true) 0 (λ e. omega arith) h.hub;
     free = λ still. seat_on (run.options.ranks + 2) b b' stays (λ v. v.stopped ≡ 0) 0 (λ e. omega arith) (h.free still);
   }
 
+  -- the step of the reader of replies
+  pub has_polled : (p' : SpokeReader) → ReadsSpoke run (viewed b' (run.options.ranks + 3)) p' → StaysBut (run.options.ranks + 3) b b' → AreSeated run b' s r p' puts nexts steps stopped
+  has_polled p' reads stays = record {
+    board = board_on (run.options.ranks + 3) b b' stays run h.board;
+    ranks = h.ranks;
+    spokes = h.spokes;
+    puts = h.puts;
+    two = h.two;
+    made = h.made;
+    writes = λ w below. seat_on (run.options.ranks + 3) b b' stays (WritesAt (width_of (layout_in run) w) w (get_or nexts w 0) (get_or steps w 0)) (w + 1) (λ e. omega arith) (h.writes w below);
+    spoke = seat_on (run.options.ranks + 3) b b' stays (λ v. StandsFor run v s) (run.options.ranks + 1) (λ e. omega arith) h.spoke;
+    reader = seat_on (run.options.ranks + 3) b b' stays (λ v. ReadsPuts run v r) (run.options.ranks + 2) (λ e. omega arith) h.reader;
+    poll = reads;
+    hub = seat_on (run.options.ranks + 3) b b' stays (λ v. v.hub ≡ true) 0 (λ e. omega arith) h.hub;
+    free = λ still. seat_on (run.options.ranks + 3) b b' stays (λ v. v.stopped ≡ 0) 0 (λ e. omega arith) (h.free still);
+  }
+
   -- the hub has stopped
-  pub has_stopped : viewed b' 0 ≡ gained (Stop 1) 0 (viewed b 0) → StaysBut 0 b b' → AreSeated run b' s r puts nexts steps true
+  pub has_stopped : viewed b' 0 ≡ gained (Stop 1) 0 (viewed b 0) → StaysBut 0 b b' → AreSeated run b' s r p puts nexts steps true
   has_stopped knows stays = record {
     board = board_on 0 b b' stays run h.board;
     ranks = h.ranks;
@@ -107,6 +129,7 @@ module _ (run : Run) (b b' : Boards) (s : LagrangianSpoke) (r : PutReader) (puts
     writes = λ w below. seat_on 0 b b' stays (WritesAt (width_of (layout_in run) w) w (get_or nexts w 0) (get_or steps w 0)) (w + 1) (λ e. omega arith) (h.writes w below);
     spoke = seat_on 0 b b' stays (λ v. StandsFor run v s) (run.options.ranks + 1) (λ e. omega arith) h.spoke;
     reader = seat_on 0 b b' stays (λ v. ReadsPuts run v r) (run.options.ranks + 2) (λ e. omega arith) h.reader;
+    poll = seat_on 0 b b' stays (λ v. ReadsSpoke run v p) (run.options.ranks + 3) (λ e. omega arith) h.poll;
     hub = ap (λ (v : View). v.hub) knows ∙ h.hub;
     free = λ (still : true ≡ false). absurd (let x = still in cc);
   }
@@ -129,8 +152,8 @@ no_step (suc zero) below = refl
 no_step (suc (suc w)) below = absurd (omega arith)
 
 -- a bench on which nothing is made
-module _ (run : Run) (m : RunMeaning) (b : Boards) (e : b ≡ fresh_board (λ (z : RunMeaning). width_of z.layout) (λ (z : RunMeaning). windows_of z.layout) m) (of : m.run.value ≡ run) (ranks : run.options.ranks ≤ 2) (spokes : 2 ≤ run.options.lagrangian) where
-  many : run.options.ranks + 2 ≤ windows_of m.layout
+module _ (run : Run) (m : RunMeaning) (b : Boards) (e : b ≡ fresh_board (λ (z : RunMeaning). width_of z.layout) (λ (z : RunMeaning). windows_of z.layout) m) (of : m.run.value ≡ run) (ranks : run.options.ranks ≤ 2) (spokes : 3 ≤ run.options.lagrangian) where
+  many : run.options.ranks + 3 ≤ windows_of m.layout
   many =
       let same : m.layout ≡ layout_in run = m.facts.layout_is ∙ ap layout_in of in
       let all : windows_of m.layout ≡ windows_of (layout_in run) = ap windows_of same in
@@ -163,9 +186,12 @@ module _ (run : Run) (m : RunMeaning) (b : Boards) (e : b ≡ fresh_board (λ (z
   fresh_rank : (w : ℕ) → w < run.options.ranks → IsFree w 1 (viewed b (w + 1))
   fresh_rank w below = let some = many in at_owner (IsFree w 1) w (omega arith) ([], refl, omega arith, refl)
 
-  pub fresh_bench : (s : LagrangianSpoke) (r : PutReader) (puts : List Put) → All (IsPutOf run) puts
-      → ((v : View) → IsNewSeat run.options.ranks (run.options.ranks + 0) v → StandsFor run v s) → ((v : View) → run.options.ranks ≤ length v.accepted → ReadsPuts run v r) → AreSeated run b s r puts firsts no_steps false
-  fresh_bench s r puts are stands reads = record {
+  fresh_poll : IsSpokeWindow run run.options.ranks
+  fresh_poll = let some = many in record { behind = omega arith; there = omega arith }
+
+  pub fresh_bench : (s : LagrangianSpoke) (r : PutReader) (p : SpokeReader) (puts : List Put) → All (IsPutOf run) puts
+      → ((v : View) → IsNewSeat run.options.ranks (run.options.ranks + 0) v → StandsFor run v s) → ((v : View) → run.options.ranks ≤ length v.accepted → ReadsPuts run v r) → ((v : View) → IsSpokeWindow run run.options.ranks → ReadsSpoke run v p) → AreSeated run b s r p puts firsts no_steps false
+  fresh_bench s r p puts are stands reads polls = record {
     board = ap (λ (z : Boards). z.0.run.value) e ∙ of;
     ranks = ranks;
     spokes = spokes;
@@ -176,6 +202,7 @@ module _ (run : Run) (m : RunMeaning) (b : Boards) (e : b ≡ fresh_board (λ (z
         (wrote_none (width_of (layout_in run) w) w 1 (viewed b (w + 1)) (fresh_rank w below));
     spoke = stands (viewed b (run.options.ranks + 1)) fresh_spoke;
     reader = reads (viewed b (run.options.ranks + 2)) fresh_reader;
+    poll = polls (viewed b (run.options.ranks + 3)) fresh_poll;
     hub = ap (λ (z : Boards). (get_or z.2 0 no_view).hub) e;
     free = λ still. ap (λ (z : Boards). (get_or z.2 0 no_view).stopped) e;
   }

@@ -5,5 +5,6 @@ pub use Rattle.lagrangian_spoke.specs.Spokes
 pub use Rattle.plain_board.specs.Plain
 pub use Rattle.put_codec.specs.Layouts
 pub use Rattle.put_read.specs.Reads
+pub use Rattle.put_read.specs.SpokeReads
 pub use Rattle.put_words.specs.Puts
 pub use Rattle.window_words.specs.Views

@@ -26,7 +26,7 @@ fn from_one(number: i128, most: i128) -> i128
 }
 
 /// Options with a scale, a penalty, numbers of ranks and of further puts and a budget
-/// of boxes, each cut to its range, and two Lagrangian spokes.
+/// of boxes, each cut to its range, and three Lagrangian spokes.
 pub fn options(scale: i128, rho: i128, ranks: usize, iterations: u64, budget: u64) -> Options
     ensures { OptionFacts result }
 {
@@ -35,7 +35,7 @@ pub fn options(scale: i128, rho: i128, ranks: usize, iterations: u64, budget: u6
         rho: from_one(rho, MAX_RHO),
         iterations: iterations.min(MAX_ITERATIONS),
         ranks: ranks.max(1).min(MAX_RANKS),
-        lagrangian: 2,
+        lagrangian: 3,
         xhat: 0,
         candidates: 1,
         mean: false,

@@ -8,7 +8,7 @@ ghost use Rattle.spoke_tests.specs.Benches.{IsBench};
 use crate::bench::Bench;
 use crate::joined_runs::{joined, options};
 use crate::making::all_puts;
-use crate::texts::{STAGES_CORE, STAGES_STOCH, STAGES_TIME, THREE_STOCH};
+use crate::texts::{BELOW_CORE, STAGES_CORE, STAGES_STOCH, STAGES_TIME, THREE_STOCH};
 use crate::turns::{put_at, turn};
 use hedging::first;
 use lagrangian_spoke::Phase;
@@ -20,11 +20,11 @@ use std::rt::HostRuntime;
 use std::test::Fail;
 
 /// The bench of a run behind the steps of a script, a letter for each. None where the
-/// run has no first put, or not one or two ranks and two spokes.
+/// run has no first put, or not one or two ranks and three spokes.
 fn played(alloc: Global, run: &Run, script: &str) -> Result<Option<Bench>, AllocError>
     ensures { IfOk result (λ played. IfSome played (IsBench run.now)) }
 {
-    if run.options.ranks > 2 || run.options.lagrangian < 2 {
+    if run.options.ranks > 2 || run.options.lagrangian < 3 {
         return Ok(None);
     }
     let Ok(hedge) = first(alloc, run) else {
@@ -48,6 +48,19 @@ fn read_text(alloc: Global, bench: &Bench) -> Result<String, AllocError> {
         put.multipliers.values.as_slice(),
         put.x.as_slice()
     )
+}
+
+/// What the reader of replies told last behind a script, in a run of SMALL's times and
+/// scenarios.
+fn polled_text(alloc: Global, core: &str, script: &str) -> Result<String, AllocError> {
+    let given = options(2, 1, 1, 1, 1000);
+    let Some(run) = joined(alloc, (core, SMALL_TIME, SMALL_STOCH), &given) else {
+        return format!(in alloc; "no run");
+    };
+    match played(alloc, &run, script)? {
+        Some(bench) => format!(in alloc; "{:?}", bench.polled),
+        None => format!(in alloc; "no bench"),
+    }
 }
 
 /// What a spoke leaves: its answers, and its best with its multipliers.
@@ -244,6 +257,96 @@ fn best_replies(rt: HostRuntime) -> Result<(), Fail> {
     assert_eq!(rt;
         text.as_str(),
         "Ended; [Reply { put: 1, value: Some(4) }, Reply { put: 2, value: Some(6) }, Reply { put: 3, value: Some(6) }] best 2 6 [-2, -2, 4]"
+    );
+    Ok(())
+}
+
+/// Polls of the spoke's window: before any reply, while one is open, a whole one, the
+/// same once more, and the next one.
+#[test]
+fn polls(rt: HostRuntime) -> Result<(), Fail> {
+    let alloc = rt.alloc();
+    for (script, told) in [
+        ("p", "Again(Old { stamp: 0, last: 0 })"),
+        ("11111111 ssssssssss p", "Again(Odd { rank: 0, stamp: 1 })"),
+        ("11111111 ssssssssssssss pppp", "Going"),
+        (
+            "11111111 ssssssssssssss ppppp",
+            "Reading { put: 1, value: Some(120) }",
+        ),
+        (
+            "11111111 ssssssssssssss pppppp",
+            "Again(Old { stamp: 2, last: 1 })",
+        ),
+        (
+            "11111111 ssssssssssssss ppppp 11111111 ssssssssssssss ppppp",
+            "Reading { put: 2, value: Some(100) }",
+        ),
+    ] {
+        let text = polled_text(alloc, SMALL_CORE, script)?;
+        assert_eq!(rt; text.as_str(), told);
+    }
+    Ok(())
+}
+
+/// Polls during which the spoke opens its next reply, or writes it whole, behind each
+/// of their steps.
+#[test]
+fn torn_polls(rt: HostRuntime) -> Result<(), Fail> {
+    let alloc = rt.alloc();
+    let opened = "Again(Torn { rank: 0, first: 2, last: 3 })";
+    let whole = "Again(Torn { rank: 0, first: 2, last: 4 })";
+    for (script, told) in [
+        ("11111111 ssssssssssssss 11111111 p ssssssssss pppp", opened),
+        ("11111111 ssssssssssssss 11111111 pp ssssssssss ppp", opened),
+        ("11111111 ssssssssssssss 11111111 ppp ssssssssss pp", opened),
+        ("11111111 ssssssssssssss 11111111 pppp ssssssssss p", opened),
+        (
+            "11111111 ssssssssssssss 11111111 p ssssssssssssss pppp",
+            whole,
+        ),
+        (
+            "11111111 ssssssssssssss 11111111 pppp ssssssssssssss p",
+            whole,
+        ),
+        (
+            "11111111 ssssssssssssss 11111111 pp ssssssssssssss ppp ppppp",
+            "Reading { put: 2, value: Some(100) }",
+        ),
+    ] {
+        let text = polled_text(alloc, SMALL_CORE, script)?;
+        assert_eq!(rt; text.as_str(), told);
+    }
+    Ok(())
+}
+
+/// SMALL with a constant of -100, which lowers each bound by 100 units, that is by 2000:
+/// the replies are below 0, and their high words those of -1.
+#[test]
+fn replies_below_zero(rt: HostRuntime) -> Result<(), Fail> {
+    let alloc = rt.alloc();
+    for (script, told) in [
+        (
+            "11111111 ssssssssssssss ppppp",
+            "Reading { put: 1, value: Some(-1880) }",
+        ),
+        (
+            "11111111 ssssssssssssss 11111111 ssssssssssssss ppppp",
+            "Reading { put: 2, value: Some(-1900) }",
+        ),
+    ] {
+        let text = polled_text(alloc, BELOW_CORE, script)?;
+        assert_eq!(rt; text.as_str(), told);
+    }
+    let text = told_text(
+        alloc,
+        (BELOW_CORE, SMALL_TIME, SMALL_STOCH),
+        &options(2, 1, 1, 1, 1000),
+        "11111111 ssssssssssssss 11111111 ssssssssssssss x s",
+    )?;
+    assert_eq!(rt;
+        text.as_str(),
+        "Ended; [Reply { put: 1, value: Some(-1880) }, Reply { put: 2, value: Some(-1900) }] best 1 -1880 [-10, 10]"
     );
     Ok(())
 }

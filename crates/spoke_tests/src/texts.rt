@@ -1,5 +1,9 @@
 //! The files of the tests that stand nowhere else.
 
+/// SMALL with a constant of -100 in its objective.
+pub const BELOW_CORE: &str =
+    "NAME SMALL\nROWS\n N COST\n G NEED\nCOLUMNS\n X COST 1 NEED 1\n Y COST 3 NEED 1\nRHS\n RHS NEED 2 COST 100\nBOUNDS\n UP BND X 10\n UP BND Y 10\nENDATA\n";
+
 /// Three scenarios of weight 1 that share the node of the first stage.
 pub const THREE_STOCH: &str =
     "STOCH THREE\nSCENARIOS DISCRETE\n SC A ROOT 1 T2\n RHS NEED 0\n SC B ROOT 1 T2\n RHS NEED 0\n SC C ROOT 1 T2\n RHS NEED 1\nENDATA\n";

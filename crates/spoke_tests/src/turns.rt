@@ -2,6 +2,7 @@ ghost use Rattle.std.specs.Prelude.{◌≡◌, ◌≢◌, ◌≤◌, ◌<◌, �
 ghost use Rattle.lagrangian_spoke.specs.Spokes.{IsPutOf, StandsFor};
 ghost use Rattle.lagrangian_spoke.specs.declared.spoke.Phase.TheVariants.{Ended};
 ghost use Rattle.put_read.specs.Reads.{ReadsPuts};
+ghost use Rattle.put_read.specs.SpokeReads.{ReadsSpoke};
 ghost use Rattle.spoke_tests.specs.Benches.{IsBench};
 ghost use Rattle.spoke_tests.specs.Seats.{IsBoard, StaysBut, viewed};
 
@@ -11,7 +12,7 @@ use lagrangian_spoke::{LagrangianSpoke, Phase};
 use log_words::SpokeStep;
 use plain_board::PlainBoard;
 use put_codec::RunMeaning;
-use put_read::PutReader;
+use put_read::{PutReader, ReplyRead, SpokeReader};
 use run_calls::Put;
 use sp_model::{MAX_ITERATIONS, Run};
 use stamped_read::Read;
@@ -101,7 +102,7 @@ fn reply_on(alloc: Global, bench: &mut Bench, run: &Run) -> Result<(), AllocErro
 /// The reader's next step at the second spoke's seat.
 fn read_step(run: &Run, board: &mut PlainBoard<RunMeaning>, reader: &mut PutReader) -> Read
     requires board { IsBoard run.now board.old }
-    requires spokes { 2 ≤ run.now.options.lagrangian }
+    requires spokes { 3 ≤ run.now.options.lagrangian }
     requires reads { ReadsPuts run.now (viewed board.old (run.now.options.ranks + 2)) reader.old }
     ensures reads { ReadsPuts run.now (viewed board.new (run.now.options.ranks + 2)) reader.new }
     ensures stays { StaysBut (run.now.options.ranks + 2) board.old board.new }
@@ -118,6 +119,26 @@ fn read_on(bench: &mut Bench, run: &Run)
     bench.read = read_step(run, &mut bench.board, &mut bench.reader);
 }
 
+/// The next step of the reader of replies at the third spoke's seat.
+fn poll_step(run: &Run, board: &mut PlainBoard<RunMeaning>, poll: &mut SpokeReader) -> ReplyRead
+    requires board { IsBoard run.now board.old }
+    requires spokes { 3 ≤ run.now.options.lagrangian }
+    requires reads { ReadsSpoke run.now (viewed board.old (run.now.options.ranks + 3)) poll.old }
+    ensures reads { ReadsSpoke run.now (viewed board.new (run.now.options.ranks + 3)) poll.new }
+    ensures stays { StaysBut (run.now.options.ranks + 3) board.old board.new }
+{
+    board.select(run.options.ranks + 3);
+    poll.step(board)
+}
+
+/// The next step of the reader of replies.
+fn poll_on(bench: &mut Bench, run: &Run)
+    requires { IsBench run.now bench.old }
+    ensures { IsBench run.now bench.new }
+{
+    bench.polled = poll_step(run, &mut bench.board, &mut bench.poll);
+}
+
 /// The hub stops, where it hasn't.
 fn stop_on(bench: &mut Bench, run: &Run)
     requires { IsBench run.now bench.old }
@@ -132,7 +153,7 @@ fn stop_on(bench: &mut Bench, run: &Run)
     bench.is_stopped = true;
 }
 
-/// A step of a rank, of the spoke or of the reader, or the hub's stop; no step of any
+/// A step of a rank, of the spoke or of a reader, or the hub's stop; no step of any
 /// other letter.
 pub fn turn(alloc: Global, bench: &mut Bench, run: &Run, actor: u8) -> Result<(), AllocError>
     requires { IsBench run.now bench.old }
@@ -147,6 +168,7 @@ pub fn turn(alloc: Global, bench: &mut Bench, run: &Run, actor: u8) -> Result<()
         }
         b's' => reply_on(alloc, bench, run)?,
         b'r' => read_on(bench, run),
+        b'p' => poll_on(bench, run),
         b'x' => stop_on(bench, run),
         _ => (),
     }

@@ -1,4 +1,4 @@
-use Rattle.std.proofs.Common.{arith, rules, ◌<◌, ◌^◌, Fits}
+use Rattle.std.proofs.Common.{arith, rules, Fits}
 use Rattle.std.specs.Int.{w32}
 use Rattle.put_codec.proofs.Places.{few_cells, place_below}
 use Rattle.put_codec.proofs.Words.{cell_is}

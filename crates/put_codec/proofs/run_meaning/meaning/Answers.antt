@@ -1,6 +1,5 @@
-use Rattle.std.proofs.Common.{ap, sym, refl, subst, ◌∙◌, ◌+◌}
+use Rattle.std.proofs.Common.{sym, refl, subst, ◌+◌}
 use Rattle.put_codec.specs.Entries.{MeansRun}
-use Rattle.put_codec.specs.Layouts.{layout_in}
 use Rattle.put_codec.proofs.Fitting.{run_means}
 use Rattle.put_codec.proofs.run_meaning.meaning.Goals as goal
 

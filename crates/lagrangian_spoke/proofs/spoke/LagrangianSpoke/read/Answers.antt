@@ -1,12 +1,11 @@
-use Rattle.std.proofs.Common.{◌≢◌, ◌≤◌, ℕ, None, sym, subst}
-use Rattle.put_words.specs.Puts.{put_of}
+use Rattle.std.proofs.Common.{sym, subst}
 use Rattle.stamped_read.specs.Readers.{due}
 use Rattle.put_read.specs.Reads.{ReadsPuts, TellsPut}
 use Rattle.stamped_read.specs.declared.read.Read.TheVariants as read
 use Rattle.lagrangian_spoke.specs.declared.spoke.Phase.TheVariants.{Reads}
 use Rattle.lagrangian_spoke.proofs.Leading.{due_phase, is_due}
 use Rattle.lagrangian_spoke.proofs.Proceeding.{again_stands, due_keeps, going_stands, to_answer, told_back, worked_stands}
-use Rattle.lagrangian_spoke.proofs.ReadLeading.{again_leads, answered_leads, going_leads}
+use Rattle.lagrangian_spoke.proofs.ReadLeading.{again_leads, answered_leads, going_leads, refused_reading}
 use Rattle.lagrangian_spoke.proofs.spoke.LagrangianSpoke.read.Goals as goal
 
 pub step-requires : goal.step-requires
@@ -54,7 +53,6 @@ work_out-requires g c =
     (due_keeps of.layout.ranks c.step.ensures.made.0 view now c.args.self.now.reader.reader c.step.ensures.made.1.knows)
     (subst (λ run. ReadsPuts run now c.step.new.self) c.requires.run c.step.ensures.reads)
     c.in-Reading.put
-    (subst (λ run. (k : ℕ) → 1 ≤ k → put_of run k ≢ None) c.requires.run of.facts.there)
     (subst (λ run. TellsPut run c.args.self.now.reader c.step.new.self (read.Reading c.in-Reading.put)) c.requires.run c.in-Reading.ensures.tells)
 
 pub returns-in-Ok-clause-stands : goal.returns-in-Ok-clause-stands
@@ -64,18 +62,17 @@ returns-in-Ok-clause-stands g c =
     (due_keeps of.layout.ranks c.in-Reading.ensures.made.0 view now c.args.self.now.reader.reader c.in-Reading.ensures.made.1.knows)
     (subst (λ run. ReadsPuts run now c.step.new.self) c.requires.run c.step.ensures.reads)
     c.in-Reading.put
-    (subst (λ run. (k : ℕ) → 1 ≤ k → put_of run k ≢ None) c.requires.run of.facts.there)
     (subst (λ run. TellsPut run c.args.self.now.reader c.step.new.self (read.Reading c.in-Reading.put)) c.requires.run c.in-Reading.ensures.tells)
     _ c.in-Ok.field-0
     (told_back c.args.self.now.reader.reader c.step.new.self.reader c.in-Reading.ensures.made.0 _ c.in-Reading.ensures.made.1.tells c.in-Reading.ensures.made.1.stands)
-    c.in-Ok.ensures
+    c.in-Ok.ensures.ok
 
 pub returns-in-Ok-clause-made : goal.returns-in-Ok-clause-made
 returns-in-Ok-clause-made g c =
     let of = g.B.Board.of c.args.board.now in let made = c.in-Reading.ensures.made in (
       made.0,
       is_due g.B.Board.leaves g.B.Board.view of.layout.ranks c.args.board.now c.step.new.board (due c.args.self.now.reader.reader) _ made.0 (due_phase c.args.self.now Reads c.requires.phase) made.1.leaves_it made.1.knows,
-      answered_leads c.args.self.now c.step.new.self made.0 c.requires.phase made.1.stands c.args.run.now c.in-Reading.put _ c.in-Ok.field-0 c.in-Ok.ensures c.in-Reading.ensures.made.1.tells,
+      answered_leads c.args.self.now c.step.new.self made.0 c.requires.phase made.1.stands c.args.run.now c.in-Reading.put _ c.in-Ok.field-0 c.in-Ok.ensures.ok c.in-Reading.ensures.made.1.tells,
       tt,
     )
 
@@ -85,5 +82,5 @@ returns-in-Err-clause-made g c =
       made.0,
       is_due g.B.Board.leaves g.B.Board.view of.layout.ranks c.args.board.now c.step.new.board (due c.args.self.now.reader.reader) _ made.0 (due_phase c.args.self.now Reads c.requires.phase) made.1.leaves_it made.1.knows,
       tt,
-      (c.in-Reading.put, c.requires.phase, sym c.in-Reading.ensures.made.1.tells),
+      refused_reading c.args.self.now c.step.new.self made.0 c.requires.phase made.1.stands c.in-Reading.put c.work_out.new.self made.1.tells c.in-Err.ensures.err,
     )

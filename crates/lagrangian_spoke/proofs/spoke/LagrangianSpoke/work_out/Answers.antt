@@ -11,8 +11,8 @@ dual-requires-clause-long c = let h = c.requires in long_read c.args.run.now c.a
 pub dual-requires-clause-sized : goal.dual-requires-clause-sized
 dual-requires-clause-sized c = let h = c.requires in sized_read c.args.run.now c.args.put h.made c.args.self.now.reader.put.multipliers h.made_is h.multipliers h.is_put
 
-pub returns-in-Ok : goal.returns-in-Ok
-returns-in-Ok c = let h = c.requires in let fits : FitsSigned w128 c.in-Ok.value = search rules in (
+pub returns-in-Ok-clause-ok : goal.returns-in-Ok-clause-ok
+returns-in-Ok-clause-ok c = let h = c.requires in let fits : FitsSigned w128 c.in-Ok.value = search rules in (
   record { number = refl; reader = refl; best = refl },
   record {
     phase = refl;
@@ -21,8 +21,8 @@ returns-in-Ok c = let h = c.requires in let fits : FitsSigned w128 c.in-Ok.value
   },
 )
 
-pub returns-in-Err-Spent : goal.returns-in-Err-Spent
-returns-in-Err-Spent c = let h = c.requires in let run = c.args.run.now in let m = c.args.self.now.reader.put.multipliers in (
+pub returns-in-Err-Spent-clause-ok : goal.returns-in-Err-Spent-clause-ok
+returns-in-Err-Spent-clause-ok c = let h = c.requires in let run = c.args.run.now in let m = c.args.self.now.reader.put.multipliers in (
   record { number = refl; reader = refl; best = refl },
   record {
     phase = refl;

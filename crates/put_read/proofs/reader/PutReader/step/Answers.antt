@@ -17,7 +17,7 @@ returns-in-Reading-clause-reads g c =
 pub returns-in-Reading-clause-tells : goal.returns-in-Reading-clause-tells
 returns-in-Reading-clause-tells g c =
     let of = g.B.Board.of c.args.board.now in
-    reading_tells of.run.value (g.B.Board.view c.args.board.now) c.args.self.now c.step.new.self c.fill.new.put of.most c.in-Reading.put c.requires of.facts.most_is c.in-Reading.ensures.whole c.fill.ensures.put
+    reading_tells of.run.value (g.B.Board.view c.args.board.now) c.args.self.now c.step.new.self c.fill.new.put of.most c.in-Reading.put c.requires of.facts.most_is of.facts.there c.in-Reading.ensures.whole c.fill.ensures.put
 
 pub returns-in-Going-clause-reads : goal.returns-in-Going-clause-reads
 returns-in-Going-clause-reads g c =
