@@ -16,9 +16,13 @@
 # (`+`: it was stopped), how much longer that took (`>` where it was stopped, `-`
 # where the million was spent), and the seconds of cbc and glpsol, `-` where one
 # isn't there. The second table has boxes a second of
-# searches that spend their budget. All seconds are seconds of a processor.
+# searches that spend their budget, and, where perf is there, where their time goes: to
+# the rows (propagation), to finding prices, to bounds from the objective and the prices,
+# and to the rest, by the names of the functions in which the samples lie, so that what
+# the compiler has put into its caller counts as the caller's. All seconds are seconds
+# of a processor.
 #
-# Needs: rt, python3; cbc and glpsol if they are to be measured beside.
+# Needs: rt, python3; cbc, glpsol and perf if they are to be used.
 # Takes: some ten minutes, most of them in rows that don't end within the million,
 # and before it the proof of the driver, and of the crates where they aren't proved.
 # Use: bench/search.sh
@@ -422,17 +426,44 @@ def units(hours, count):
     return columns, rows, sorted(entries, key=lambda e: (e[1], e[0]))
 
 
-def run(kind, problem, budget):
+def numbers_of(kind, problem, budget):
     columns, rows, entries = problem
     numbers = [kind, budget, len(columns), len(rows), len(entries)]
-    numbers += [v for part in problem for one in part for v in one]
-    words = subprocess.run([driver, *map(str, numbers)], check=True, stdout=subprocess.PIPE, text=True).stdout.split()
+    return numbers + [v for part in problem for one in part for v in one]
+
+
+def run(kind, problem, budget):
+    words = subprocess.run([driver, *map(str, numbers_of(kind, problem, budget))], check=True, stdout=subprocess.PIPE, text=True).stdout.split()
     return [words[0], *map(int, words[1:])]
 
 
 def search(problem, budget):
     found, nanos = run(0, problem, budget)
     return found, nanos / 1e9
+
+
+GROUPS = {
+    "rows": ("propagate",),
+    "prices": ("dual_simplex", "row_prices", "suggesting", "scaling"),
+    "bounds": ("safe_bound", "bettering", "gridding", "curving"),
+}
+
+
+def shares(problem, budget):
+    """The shares of the groups in a search's time, and of the rest, in percent."""
+    if not shutil.which("perf"):
+        return "-"
+    data = f"{work}/perf.data"
+    record = ["perf", "record", "-q", "-F", "999", "-o", data, driver]
+    subprocess.run([*record, *map(str, numbers_of(0, problem, budget))], stdout=subprocess.DEVNULL, stderr=subprocess.DEVNULL)
+    script = subprocess.run(["perf", "script", "-i", data, "-F", "sym"], stdout=subprocess.PIPE, stderr=subprocess.DEVNULL, text=True)
+    counts = dict.fromkeys([*GROUPS, "rest"], 0)
+    for line in script.stdout.split("\n"):
+        if line.strip():
+            group = next((one for one, words in GROUPS.items() if any(word in line for word in words)), "rest")
+            counts[group] += 1
+    whole = max(1, sum(counts.values()))
+    return ", ".join(f"{one} {100 * count / whole:.0f} %" for one, count in counts.items())
 
 
 def least_budget(problem):
@@ -502,7 +533,7 @@ for name, problem in FAMILIES:
     times = "-" if found == "spent" else f"{'' if ended else '>'}{nanos / 1e9 / max(seconds, 1e-9):.1f}"
     print(f"{name:>12} {size:>9} {boxes:>8} {found:>12} {seconds:>9.4f} {plain:>12} {nanos / 1e9:>9.4f} {times:>8} {cbc:>7} {glpsol:>7}", flush=True)
 
-print(f"\n{'problem':>12} {'size':>9} {'budget':>9} {'seconds':>9} {'boxes/s':>10}")
+print(f"\n{'problem':>12} {'size':>9} {'budget':>9} {'seconds':>9} {'boxes/s':>10}  shares")
 SPEEDS = [("split 10", split(10, 30)), ("lots 18", lots(18)), ("split 100", split(100, 1)), ("capacity 9", capacity(9, 10, 1000)), ("units 24 3", units(24, 3))]
 for name, problem in SPEEDS:
     budget = 100_000
@@ -511,5 +542,5 @@ for name, problem in SPEEDS:
         budget //= 4
         found, seconds = search(problem, budget)
     size = f"{len(problem[0])}x{len(problem[1])}"
-    print(f"{name:>12} {size:>9} {budget:>9} {seconds:>9.4f} {budget / max(seconds, 1e-9):>10.0f}{'' if found == 'spent' else ' (ended)'}", flush=True)
+    print(f"{name:>12} {size:>9} {budget:>9} {seconds:>9.4f} {budget / max(seconds, 1e-9):>10.0f}{'' if found == 'spent' else ' (ended)'}  {shares(problem, budget)}", flush=True)
 PY

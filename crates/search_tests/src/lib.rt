@@ -10,6 +10,8 @@ mod points;
 #[cfg(test)]
 mod problems;
 #[cfg(test)]
+mod reservoirs;
+#[cfg(test)]
 mod rises;
 #[cfg(test)]
 mod solving;

@@ -112,6 +112,10 @@ fn needs_few_boxes_for_the_farm(rt: HostRuntime) -> Result<(), Fail> {
         let problem = found.expect(&rt, "a problem");
         let best = solve(rt.alloc(), &problem, 1000)?;
         assert_eq!(rt; best.value, value);
+        let fault = solve(rt.alloc(), &problem, 1).err();
+        assert_eq!(rt; fault, Some(SolveFault::Spent { opened: 1 }));
+        let again = solve_from(rt.alloc(), &problem, &best.point, 1)?;
+        assert_eq!(rt; again.point.as_slice(), best.point.as_slice());
     }
     Ok(())
 }
@@ -169,6 +173,9 @@ fn agrees(alloc: Global, problem: &Boxed) -> Result<bool, AllocError> {
 fn takes_the_first_of_equals(rt: HostRuntime) -> Result<(), Fail> {
     let tied = tied(&rt, rt.alloc())?;
     assert!(rt; agrees(rt.alloc(), &tied)?);
+    let last = List::from_slice(rt.alloc(), &[1, 0])?;
+    let best = solve_from(rt.alloc(), &tied, &last, 100)?;
+    assert_eq!(rt; best.point.as_slice(), [0, 1].as_slice());
     Ok(())
 }
 

@@ -1,4 +1,4 @@
-ghost use Rattle.std.specs.Prelude.{◌≡◌, true, IfOk};
+ghost use Rattle.std.specs.Prelude.{◌≡◌, true, false, IfOk};
 ghost use Rattle.table_board.specs.Tables.{all_seats, IsFirst};
 
 use crate::rule::Ruled;
@@ -61,17 +61,28 @@ impl<M: Meaning> TableBoard<M> {
         ensures { IfOk result
             (λ seats. seats ≡ all_seats self.old.0 self.old.1 (M.count self.old.1)) }
     {
-        let hub = self.hub.take().unwrap();
+        let hub = self.take_hub();
         self.deal_all(alloc, hub)
     }
 
-    /// All seats, where this is the one of the table.
+    /// The table's one seat. The board isn't fresh afterwards.
+    fn take_hub(&mut self) -> Seat<u8, Known<M>>
+        requires { self.old.2 ≡ true }
+        ensures same { (self.new.0 ≡ self.old.0) × (self.new.1 ≡ self.old.1) }
+        ensures given { self.new.2 ≡ false }
+        ensures first { IsFirst self.old.0 self.old.1 (M.count self.old.1) result }
+    {
+        self.hub.take().unwrap()
+    }
+
+    /// All seats, where this is the one of the table, which the board has given out.
     fn deal_all(
         &self,
         alloc: Global,
         first: Seat<u8, Known<M>>,
     ) -> Result<List<TableSeat<'_, M>>, AllocError>
-        requires { IsFirst self.now.0 self.now.1 (M.count self.now.1) first }
+        requires given { self.now.2 ≡ false }
+        requires first { IsFirst self.now.0 self.now.1 (M.count self.now.1) first }
         ensures { IfOk result
             (λ seats. seats ≡ all_seats self.now.0 self.now.1 (M.count self.now.1)) }
     {

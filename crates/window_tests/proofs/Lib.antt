@@ -1,3 +1,4 @@
 mod Benches
+mod Following
 mod Phasing
 mod Ranking

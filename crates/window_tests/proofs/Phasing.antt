@@ -1,7 +1,6 @@
 -- What each step of a put or a reading asks of a board, and where it leaves it.
 use Rattle.std.proofs.Common.{◌≡◌, ℕ, ◌+◌, ◌<◌, ◌≤◌, suc, List, [], ◌∷◌, ◌++◌, get_or, set, sym, refl, ap, ◌∙◌, subst, arith, get_or-set_other}
 use Rattle.std.specs.Prelude.{Option}
-use Rattle.std.proofs.lemmas.List.{get_or-replicate}
 use Rattle.std.proofs.lemmas.List.FromFn.{get_or-map-range_with_len}
 use Rattle.window_words.specs.Views.{pending, gained}
 use Rattle.window_words.specs.Conditions.{MayOpen, IsNotAhead, IsNextWord, IsAllPut}
@@ -14,10 +13,15 @@ use Rattle.plain_board.specs.Plain.{PlainValue, no_view, selected, fresh_board, 
 use Rattle.window_tests.specs.declared.tiny.Tiny.{Tiny}
 use Rattle.stamped_read.specs.Readers.{Reader}
 use Rattle.stamped_read.specs.Promises.{ReadsFor}
+use Rattle.window_tests.specs.Words.{word_at, words_at}
 use Rattle.window_tests.specs.Phases.{viewed, entry_of, HasPut, IsLeaders, IsPutting, IsReadAt, StaysBut, WritesAt}
 
 abbrev pub wide : Tiny → ℕ → ℕ
 wide t w = t.width
+
+-- the word at a place of an entry
+pub word_stands : (width w k c : ℕ) → c < width → get_or (words_at width w k) c 0 ≡ word_at w k c
+word_stands width w k c below = get_or-map-range_with_len (word_at w k) 0 width c c 0 below (omega arith)
 
 -- a board whose seat was selected
 abbrev Selects : ℕ → PlainValue Tiny → PlainValue Tiny → Type 0
@@ -75,9 +79,9 @@ module _ (b b1 : PlainValue Tiny) (seat : ℕ) (e1 : Selects seat b b1) where
   not_ahead w k n h leads = subst (λ (z : PlainValue Tiny). IsNotAhead z.0.leaders (selected z) n) (sym e1)
       (λ w' closed owned past. let same : w ≡ w' = ap first_window (sym h.1 ∙ owned) in absurd (omega arith))
 
-  pub next_word : (w k c : ℕ) → IsPutting w k c (viewed b seat) → c < b.0.width → IsNextWord entry_of wide b1.0 (selected b1) (k + 1)
-  next_word w k c h more = subst (λ (z : PlainValue Tiny). IsNextWord entry_of wide z.0 (selected z) (k + 1)) (sym e1)
-      (w, h.0, pending (k + 1) c, h.1, h.2, more, sym (get_or-replicate b.0.width c (k + 1) 0 more))
+  pub next_word : (w k c n : ℕ) → IsPutting w k c (viewed b seat) → c < b.0.width → n ≡ word_at w (k + 1) c → IsNextWord entry_of wide b1.0 (selected b1) n
+  next_word w k c n h more is = subst (λ (z : PlainValue Tiny). IsNextWord entry_of wide z.0 (selected z) n) (sym e1)
+      (w, h.0, pending (k + 1) c, h.1, h.2, more, is ∙ sym (word_stands b.0.width w (k + 1) c more))
 
   -- a reader reads for the selected hub's seat
   pub reads_here : (s : Reader) → seat ≡ 0 → IsReadAt b s → ReadsFor (entry_of b1.0) (wide b1.0) b1.0.windows (selected b1) s

@@ -1,10 +1,11 @@
 -- Where puts and a reading stand, step by step.
-use Rattle.std.specs.Prelude.{◌≡◌, ◌≢◌, ◌<◌, ◌≤◌, ℕ, ◌+◌, ◌^◌, length, replicate, slice_index, slice_index_or, List, Some, None}
+use Rattle.std.specs.Prelude.{◌≡◌, ◌≢◌, ◌<◌, ◌≤◌, ℕ, ◌+◌, ◌^◌, length, slice_index, slice_index_or, List, Some, None}
 use Rattle.window_words.specs.Views.{last_of, OwnsOne, pending}
 use Rattle.window_words.specs.declared.views.View.{View}
 use Rattle.plain_board.specs.Plain.{PlainValue, no_view}
 use Rattle.stamped_read.specs.Readers.{Reader}
 use Rattle.stamped_read.specs.Promises.{ReadsFor}
+use Rattle.window_tests.specs.Words.{words_at}
 use Rattle.window_tests.specs.declared.tiny.Tiny.{Tiny}
 
 -- what a seat knows
@@ -41,7 +42,7 @@ pub record StaysBut (seat : ℕ) (b b' : PlainValue Tiny) : Type 0 where
 
 -- the words of an entry
 abbrev pub entry_of : Tiny → ℕ → ℕ → List ℕ
-entry_of t w k = replicate t.width k
+entry_of t w k = words_at t.width w k
 
 -- a reader reads for the hub's seat
 abbrev pub IsReadAt : PlainValue Tiny → Reader → Type 0

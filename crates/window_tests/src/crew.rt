@@ -78,8 +78,12 @@ impl<'a> Crew<'a> {
             return Ok(());
         }
         let reader = StampedReader::new(alloc, meaning)?;
-        self.followers
-            .push(Follower::new(seat, reader, meaning.leaders))?;
+        let follower = if place == 0 {
+            Follower::at_hub(seat, reader, meaning.leaders)
+        } else {
+            Follower::new(seat, reader, meaning.leaders)
+        };
+        self.followers.push(follower)?;
         Ok(())
     }
 

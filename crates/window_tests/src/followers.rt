@@ -1,10 +1,11 @@
 ghost use Rattle.std.specs.Prelude.{◌≡◌, length};
-ghost use Rattle.window_tests.specs.Ranks.{IsReadBy};
+ghost use Rattle.window_tests.specs.Ranks.{IsReadBy, IsRunning};
 
 use crate::tiny::Tiny;
 use stamped_read::{Read, StampedReader};
 use std::marker::Model;
 use table_board::TableSeat;
+use window_words::Board;
 
 /// A reader of all leaders' windows at a table's seat. Contracts see how many
 /// windows it reads.
@@ -13,17 +14,20 @@ pub struct Follower<'a> {
     seat: TableSeat<'a, Tiny>,
     reader: StampedReader,
     ranks: usize,
+    /// Whether the seat is the hub's, and hasn't stopped.
+    runs: bool,
 }
 
 impl<'a> Model for Follower<'a> {
-    ghost use Rattle.std.specs.Prelude.{ℕ, ◌≡◌, length};
-    ghost use Rattle.window_tests.specs.Ranks.{IsReadBy};
+    ghost use Rattle.std.specs.Prelude.{ℕ, ◌≡◌, true, length};
+    ghost use Rattle.window_tests.specs.Ranks.{IsReadBy, IsRunning};
 
     ghost Value = { ℕ };
 
     ghost view = { λ f. f.ranks };
 
-    ghost invariant = { λ f. IsReadBy f.seat f.reader × (length f.reader.parts ≡ f.ranks) };
+    ghost invariant = { λ f. IsReadBy f.seat f.reader × (length f.reader.parts ≡ f.ranks)
+        × (f.runs ≡ true → IsRunning f.seat.2) };
 }
 
 impl<'a> Follower<'a> {
@@ -37,6 +41,22 @@ impl<'a> Follower<'a> {
             seat,
             reader,
             ranks,
+            runs: false,
+        }
+    }
+
+    /// The same at the hub's seat, which hasn't stopped.
+    pub fn at_hub(seat: TableSeat<'a, Tiny>, reader: StampedReader, ranks: usize) -> Follower<'a>
+        requires reads { IsReadBy seat reader }
+        requires ranks { length reader.parts ≡ ranks }
+        requires runs { IsRunning seat.2 }
+        ensures { result ≡ ranks }
+    {
+        Follower {
+            seat,
+            reader,
+            ranks,
+            runs: true,
         }
     }
 
@@ -56,6 +76,23 @@ impl<'a> Follower<'a> {
             }
         }
         Read::Going
+    }
+
+    /// Stops with this number, which isn't 0, once and at the hub's seat alone.
+    pub fn stop(&mut self, last: u64)
+        ensures { self.new ≡ self.old }
+    {
+        if self.runs && last > 0 {
+            self.seat.stop(last);
+            self.runs = false;
+        }
+    }
+
+    /// The number with which the hub's seat stopped, and 0 before.
+    pub fn stopped(&mut self) -> u64
+        ensures { self.new ≡ self.old }
+    {
+        self.seat.stopped()
     }
 
     /// The number of the last put that was read whole, and 0 before.

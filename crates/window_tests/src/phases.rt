@@ -3,7 +3,7 @@ ghost use Rattle.stamped_read.specs.Promises.{IsSameGroup};
 ghost use Rattle.window_tests.specs.Phases.{viewed, HasPut, IsLeaders, IsPutting};
 ghost use Rattle.window_tests.specs.Phases.{IsReadAt, StaysBut, WritesAt};
 
-use crate::tiny::Tiny;
+use crate::tiny::{Tiny, word_at};
 use plain_board::PlainBoard;
 use stamped_read::{Read, StampedReader};
 use window_words::Board;
@@ -28,7 +28,7 @@ fn put_next(board: &mut PlainBoard<Tiny>, window: usize, last: u64, count: usize
     ensures stays { StaysBut (window + 1) board.old board.new }
 {
     board.select(window + 1);
-    board.put_word(last + 1);
+    board.put_word(word_at(window, last + 1, count));
 }
 
 /// Closes the entry after `last`.

@@ -1,9 +1,9 @@
 ghost use Rattle.std.specs.Prelude.{◌≡◌, ◌<◌, ◌≤◌, ◌+◌, ◌^◌};
 ghost use Rattle.window_tests.specs.Phases.{HasPut, IsPutting, WritesAt};
-ghost use Rattle.window_tests.specs.Ranks.{IsLeaderSeat, IsSameSeat, IsFreshRank};
+ghost use Rattle.window_tests.specs.Ranks.{IsLeaderSeat, IsSameSeat, IsFreshRank, IsRunning};
 
 use crate::phases::counted;
-use crate::tiny::Tiny;
+use crate::tiny::{Tiny, word_at};
 use std::marker::Model;
 use table_board::TableSeat;
 use window_words::Board;
@@ -26,7 +26,7 @@ fn put_at(seat: &mut TableSeat<'_, Tiny>, window: usize, last: u64, count: usize
     ensures putting { IsPutting window last (count + 1) seat.new.2 }
     ensures same { IsSameSeat seat.old seat.new }
 {
-    seat.put_word(last + 1);
+    seat.put_word(word_at(window, last + 1, count));
 }
 
 /// Closes the entry after `last`.
@@ -57,8 +57,7 @@ fn write_at(seat: &mut TableSeat<'_, Tiny>, window: usize, last: u64, width: usi
     }
 }
 
-/// A rank at the seat of its window, each word of whose entries is the entry's
-/// number.
+/// A rank at the seat of its window.
 #[derive(Drop)]
 pub struct Rank<'a> {
     seat: TableSeat<'a, Tiny>,
@@ -68,6 +67,8 @@ pub struct Rank<'a> {
     /// How many puts are closed, and how many steps of the next are made.
     last: u64,
     step: usize,
+    /// Whether the seat is the hub's too, and hasn't stopped.
+    runs: bool,
 }
 
 impl<'a> Model for Rank<'a> {
@@ -78,7 +79,7 @@ impl<'a> Model for Rank<'a> {
 
     ghost view = { λ r. r.window };
 
-    ghost invariant = { λ r. IsRank r.seat r.window r.width r.most r.last r.step };
+    ghost invariant = { λ r. IsRank r.seat r.window r.width r.most r.last r.step r.runs };
 }
 
 impl<'a> Rank<'a> {
@@ -95,6 +96,34 @@ impl<'a> Rank<'a> {
             most,
             last: 0,
             step: 0,
+            runs: false,
+        }
+    }
+
+    /// The same at a seat that is the hub's too, and hasn't stopped.
+    pub fn at_hub(seat: TableSeat<'a, Tiny>, window: usize, width: usize, most: u64) -> Rank<'a>
+        requires fresh { IsFreshRank window width most seat }
+        requires runs { IsRunning seat.2 }
+        ensures { result ≡ window }
+    {
+        Rank {
+            seat,
+            window,
+            width,
+            most,
+            last: 0,
+            step: 0,
+            runs: true,
+        }
+    }
+
+    /// Stops with this number, which isn't 0, once and at the hub's seat alone.
+    pub fn stop(&mut self, last: u64)
+        ensures { self.new ≡ self.old }
+    {
+        if self.runs && last > 0 {
+            self.seat.stop(last);
+            self.runs = false;
         }
     }
 

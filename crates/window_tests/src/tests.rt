@@ -1,7 +1,8 @@
 ghost use Rattle.std.specs.Prelude.{◌≡◌, ◌<◌};
 
 use crate::bench::Bench;
-use crate::tiny::Tiny;
+use crate::stops::stop_told;
+use crate::tiny::{Tiny, word_at};
 use plain_board::PlainBoard;
 use stamped_read::{Again, Read, ReplyReader};
 use std::alloc::{AllocError, Global};
@@ -11,7 +12,7 @@ use std::test::Fail;
 
 /// The windows of two ranks, with entries of so many words and up to three puts.
 pub fn two_ranks(width: usize) -> Tiny
-    ensures { (result.leaders ≡ 2) × (result.width ≡ width) }
+    ensures { (result.windows ≡ 2) × (result.leaders ≡ 2) × (result.width ≡ width) }
 {
     Tiny {
         windows: 2,
@@ -39,10 +40,19 @@ fn read_on(bench: &mut Bench, steps: usize) -> Read {
     told
 }
 
+/// Whether these are the words of a rank's part of a put.
+pub fn is_part(words: &[u64], rank: usize, put: u64, width: usize) -> bool {
+    for place in 0..words.len() {
+        if words[place] != word_at(rank, put, place) {
+            return false;
+        }
+    }
+    words.len() == width
+}
+
 /// Whether the words that the reader has of a rank's part are those of this put.
 fn has_words(bench: &Bench, rank: usize, put: u64, width: usize) -> bool {
-    let words = bench.part(rank);
-    words.len() == width && words.iter().all(|word| *word == put)
+    is_part(bench.part(rank), rank, put, width)
 }
 
 /// What a reader tells that made so many steps before a rank opened put 2.
@@ -103,6 +113,13 @@ fn a_put_that_is_begun(rt: HostRuntime) -> Result<(), Fail> {
     assert!(rt; bench.read() == Read::Again(Again::Old { stamp: 0, last: 0 }));
     bench.write(0);
     assert!(rt; bench.read() == Read::Again(Again::Odd { rank: 0, stamp: 1 }));
+    Ok(())
+}
+
+#[test]
+fn a_stop_that_all_seats_see(rt: HostRuntime) -> Result<(), Fail> {
+    let told = stop_told(rt.alloc(), two_ranks(2), 5)?;
+    assert!(rt; told == [0, 5, 5]);
     Ok(())
 }
 

@@ -1,9 +1,11 @@
-ghost use Rattle.std.specs.Prelude.{◌≡◌, ◌≤◌, ◌<◌, ◌^◌, replicate};
-ghost use Rattle.std.proofs.lemmas.List.{length-replicate};
+ghost use Rattle.std.specs.Prelude.{◌≡◌, ◌≤◌, ◌<◌, ◌^◌};
+ghost use Rattle.std.proofs.lemmas.List.FromFn.{length-map-range_with_len};
+ghost use Rattle.window_tests.specs.Words.{word_at, words_at};
 
 use window_words::Meaning;
 
-/// Windows of one width, each word of whose entries is the entry's number.
+/// Windows of one width, whose words differ from entry to entry, from window to
+/// window and from place to place.
 #[derive(Clone, Copy)]
 pub struct Tiny {
     pub windows: usize,
@@ -15,7 +17,7 @@ pub struct Tiny {
 }
 
 impl Meaning for Tiny {
-    ghost entry = { λ t _ k. replicate t.width k };
+    ghost entry = { λ t w k. words_at t.width w k };
 
     ghost count = { λ t. t.windows };
 
@@ -41,9 +43,16 @@ impl Meaning for Tiny {
         self.most
     }
 
-    ghost fits = { λ t w k _ _ _. length-replicate t.width k };
+    ghost fits = { λ t w k _ _ _. length-map-range_with_len (word_at w k) 0 t.width };
 
     ghost small = { λ t. t.is_small };
 
     ghost led = { λ t. t.are_fewer };
+}
+
+/// The word at a place of an entry of a window.
+pub fn word_at(window: usize, entry: u64, place: usize) -> u64
+    ensures { result ≡ word_at window entry place }
+{
+    entry % 1_000_000 * 10_000 + window as u64 % 100 * 100 + place as u64 % 100
 }

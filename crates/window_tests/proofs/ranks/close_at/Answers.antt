@@ -1,4 +1,5 @@
 use Rattle.std.proofs.Common.{ap}
+use Rattle.window_words.specs.declared.views.View.{View}
 use Rattle.table_board.specs.Tables.{SeatValue}
 use Rattle.window_tests.specs.declared.tiny.Tiny.{Tiny}
 use Rattle.window_tests.proofs.Phasing.{put_closed}
@@ -11,5 +12,5 @@ close_put-requires c = rank_all_put c.args.seat.now c.args.window c.args.last c.
 pub returns : goal.returns
 returns c = record {
   put = put_closed c.args.window c.args.last _ _ _ c.requires.putting c.close_put.ensures.view;
-  same = (ap (λ (z : SeatValue Tiny). z.0) c.close_put.ensures.leaves.0, c.close_put.ensures.same);
+  same = (ap (λ (z : SeatValue Tiny). z.0) c.close_put.ensures.leaves.0, c.close_put.ensures.same, (ap (λ (v : View). v.hub) c.close_put.ensures.view, ap (λ (v : View). v.stopped) c.close_put.ensures.view));
 }

@@ -1,4 +1,5 @@
 use Rattle.std.proofs.Common.{ap}
+use Rattle.window_words.specs.declared.views.View.{View}
 use Rattle.table_board.specs.Tables.{SeatValue}
 use Rattle.window_tests.specs.declared.tiny.Tiny.{Tiny}
 use Rattle.window_tests.proofs.Phasing.{put_opened}
@@ -14,5 +15,5 @@ open_put-requires c = record {
 pub returns : goal.returns
 returns c = record {
   putting = put_opened c.args.window c.args.last _ _ c.requires.put c.open_put.ensures.view;
-  same = (ap (λ (z : SeatValue Tiny). z.0) c.open_put.ensures.leaves.0, c.open_put.ensures.same);
+  same = (ap (λ (z : SeatValue Tiny). z.0) c.open_put.ensures.leaves.0, c.open_put.ensures.same, (ap (λ (v : View). v.hub) c.open_put.ensures.view, ap (λ (v : View). v.stopped) c.open_put.ensures.view));
 }

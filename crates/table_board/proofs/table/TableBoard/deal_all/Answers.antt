@@ -6,7 +6,7 @@ use Rattle.table_board.proofs.Tabling.{all_dealt, owners_more, hub_more, next_is
 use Rattle.table_board.proofs.table.TableBoard.deal_all.Goals as goal
 
 pub first-hub-requires-clause-first : goal.first-hub-requires-clause-first
-first-hub-requires-clause-first g c = subst (λ (z : TableId × g.row.M.Denot × Bool). IsFirst z.0 z.1 (g.M.Meaning.count z.1) c.args.first) (sym c.self.view_is) c.requires
+first-hub-requires-clause-first g c = subst (λ (z : TableId × g.row.M.Denot × Bool). IsFirst z.0 z.1 (g.M.Meaning.count z.1) c.args.first) (sym c.self.view_is) c.requires.first
 
 pub first-hub-requires-clause-key : goal.first-hub-requires-clause-key
 first-hub-requires-clause-key g c = c.self.invariant.same_key
