@@ -1,0 +1,6 @@
+mod Closeness
+mod ClosedRuns
+mod FirstPuts
+mod GoingOn
+mod Roomy
+mod Taking

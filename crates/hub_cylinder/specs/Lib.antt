@@ -1,0 +1,11 @@
+pub mod Hubs
+pub use Rattle.agreement.specs.Agreeing
+pub use Rattle.bound_ledger.specs.Pairs
+pub use Rattle.hedging.specs.Hedges
+pub use Rattle.put_words.specs.Puts
+pub use Rattle.lagrangian_spoke.specs.Answering
+pub use Rattle.log_closing.specs.Closings
+pub use Rattle.log_closing.specs.Marks
+pub use Rattle.run_log.specs.Events
+pub use Rattle.run_log.specs.Runs
+pub use Rattle.sp_model.specs.Problems
