@@ -72,7 +72,7 @@ pub record IsAtStart (r : Reader) : Type 0 where
   pub rank : r.rank ≡ 0
   pub begun : r.begun ≡ false
 
--- what holds in each phase; while it asks or reads, all puts that the spoke read are answered
+-- what holds in each phase; while it asks or reads, no put behind the last that was read is answered
 abbrev pub IsInPhase : Run → LagrangianSpoke → Phase → Type 0
 IsInPhase run s Asks = (last_put s.answers.items ≤ read_last s) × IsAtStart s.reader.reader
 IsInPhase run s Reads = last_put s.answers.items ≤ read_last s

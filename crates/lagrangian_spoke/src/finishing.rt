@@ -24,9 +24,9 @@ fn last_answered(answers: &[Answer]) -> u64
 impl LagrangianSpoke {
     /// Answers a put of the run directly, and not through a window: the last put,
     /// of which the spoke may not have read a word. It does nothing where that
-    /// put is the last that was answered. Memory can be refused only to the search
-    /// for the put's dual value; the answers and the best stay then, and the spoke
-    /// is not to be used again.
+    /// put is the last that was answered. Memory can be refused only to a copy of the
+    /// put's multipliers and to the search for their dual value; the answers and the
+    /// best stay then, and the spoke is not to be used again.
     pub fn finish(&mut self, alloc: Global, run: &Run, put: &Put) -> Result<(), AllocError>
         requires ended { self.old.phase ≡ Ended }
         requires spoke { IsSpoke run.now self.old }

@@ -1,4 +1,6 @@
-ghost use Rattle.std.specs.Prelude.{◌+◌, ◌<◌, IfOk};
+ghost use Rattle.std.specs.Prelude.{◌≡◌, ◌+◌, ◌<◌, IfOk};
+ghost use Rattle.put_codec.specs.Layouts.{layout_in};
+ghost use Rattle.put_read.specs.Reads.{fresh_in};
 ghost use Rattle.window_words.specs.declared.views.View.{View};
 ghost use Rattle.lagrangian_spoke.specs.Spokes.{IsFresh, IsNewSeat, IsNoBest, StandsFor};
 
@@ -30,6 +32,7 @@ impl LagrangianSpoke {
     pub fn start(alloc: Global, run: &Run, number: usize) -> Result<LagrangianSpoke, AllocError>
         requires { number < run.now.options.lagrangian }
         ensures fresh { IfOk result (IsFresh number) }
+        ensures reader { IfOk result (λ spoke. spoke.reader.reader ≡ fresh_in (layout_in run.now)) }
         ensures stands { IfOk result (λ spoke. (v : View) →
             IsNewSeat run.now.options.ranks (run.now.options.ranks + number) v →
             StandsFor run.now v spoke) }

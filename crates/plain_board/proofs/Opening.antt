@@ -152,10 +152,13 @@ pub fresh_shows : {M : Type 0} (W : M → ℕ → ℕ) (C : M → ℕ) (of : M) 
 fresh_shows {M} W C of words starts n views places zero_words same = let all_zero : words ≡ replicate (start (W of) (C of)) 0 = zero_words ∙ ap (λ (z : ℕ). replicate z nought) places.2 in λ i. (of, all_zero i, same i, nought)
 
 -- one more window
-pub widest_more : (wide : ℕ → ℕ) (n widest widest' width : ℕ) → IsWidest wide n widest → width ≡ wide n → width ≤ widest' → widest ≤ widest' → IsWidest wide (n + 1) widest'
-widest_more wide n widest widest' width p is up high w b = dite (ℕ_discrete w n)
-    (λ last. let e : wide w ≡ wide n = ap wide last in omega arith)
-    (λ other. let h = p w (omega arith) in omega arith)
+pub widest_more : (wide : ℕ → ℕ) (n widest widest' width : ℕ) → IsWidest wide n widest → width ≡ wide n → width ≤ widest' → widest ≤ widest' → ((m : ℕ) → width ≤ m → widest ≤ m → widest' ≤ m) → IsWidest wide (n + 1) widest'
+widest_more wide n widest widest' width p is up high least = (
+  (λ w b. dite (ℕ_discrete w n)
+      (λ last. let e : wide w ≡ wide n = ap wide last in omega arith)
+      (λ other. let h = p.0 w (omega arith) in omega arith)),
+  (λ m enough. let e : wide n ≤ m = enough n (omega arith) in least m (omega arith) (p.1 m (λ w b. enough w (omega arith)))),
+)
 
 -- one more seat behind the others
 pub views_more : (count n : ℕ) (seats seats' : List PlainSeat) (s : PlainSeat) → map shown seats ≡ hub_view count ∷ map (owner_view count) (range_with_len 0 n) → shown s ≡ owner_view count n → seats' ≡ seats ++ s ∷ [] → map shown seats' ≡ hub_view count ∷ map (owner_view count) (range_with_len 0 (n + 1))
@@ -164,7 +167,7 @@ views_more count n seats seats' s views is pushed = ap (map shown) pushed ∙ (m
 
 -- no window
 pub widest_none : (wide : ℕ → ℕ) → IsWidest wide 0 0
-widest_none wide w l = absurd (omega arith)
+widest_none wide = ((λ w l. absurd (omega arith)), (λ m _. omega arith))
 
 -- a seat that owns no window has room, where its tracks have
 no_window : {A : Type 0} (o : Option ℕ) (w : ℕ) → o ≡ None → o ≡ Some w → A

@@ -151,7 +151,7 @@ module _ {M : Type 0} (E : M → ℕ → ℕ → List ℕ) (W : M → ℕ → �
   -- READ
   pub read_place : (w : ℕ) → ReadsOn (W of) v w → (w < length starts) × (get_or starts w 0 + 1 + read_count v.reading < length words) × (0 < s.words.spare)
   read_place w m = let q : Reading = m.0 in let same = m.2 in let l = reads_below q m.1 in let below : w < C of = omega arith in let t = stamp_place w below in let c : read_count v.reading ≡ length q.words = ap read_count m.1 in
-      let more = m.3 in let i = word_inside w (1 + length q.words) below (omega arith) in let e = t.1 in let wide = r.wide_most w below in (
+      let more = m.3 in let i = word_inside w (1 + length q.words) below (omega arith) in let e = t.1 in let wide = r.wide_most.0 w below in (
         t.0,
         omega arith,
         room_to_read (Ld of) (C of) r.widest (L of) s (roomy E W C Ld L of words starts seats at r s is) q m.1 (omega arith),

@@ -4,9 +4,14 @@ use Rattle.wide_num.specs.RoomContents.{Contents, with_room}
 use Rattle.window_words.specs.declared.views.View.{View}
 use Rattle.plain_board.specs.Seats.{room_for}
 
--- a width that is the greatest
+-- no window is wider
+abbrev pub IsEnough : (ℕ → ℕ) → ℕ → ℕ → Type 0
+IsEnough wide count n = (w : ℕ) → w < count → wide w ≤ n
+
+-- the greatest width: no window is wider, and nothing less is enough
 abbrev pub IsWidest : (ℕ → ℕ) → ℕ → ℕ → Type 0
-IsWidest wide count widest = (w : ℕ) → w < count → wide w ≤ widest
+IsWidest wide count widest =
+    IsEnough wide count widest × ((n : ℕ) → IsEnough wide count n → widest ≤ n)
 
 -- no accepted entries of window w, with room for those that there may be
 abbrev pub fresh_track : ℕ → ℕ → ℕ → Contents ℕ

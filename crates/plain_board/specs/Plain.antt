@@ -11,6 +11,7 @@ use Rattle.window_words.specs.declared.views.Pending.{Pending}
 use Rattle.window_words.specs.declared.views.Call.{Call}
 use Rattle.window_words.specs.declared.views.Call.TheVariants.{Open, Put, Close, Begin, Read, End, Stop, Stopped}
 use Rattle.plain_board.specs.declared.seat.PlainSeat.{PlainSeat}
+use Rattle.plain_board.specs.Fresh.{IsWidest}
 use Rattle.plain_board.specs.Seats.{shown, own_window, put_count, read_count, IsRoomy}
 
 -- the words and views as a table has them
@@ -85,7 +86,7 @@ pub record PlainRule {M : Type 0} (entry : M → ℕ → ℕ → List ℕ) (wide
   pub all_seats : length seats ≡ count of + 1
   pub few : All (λ s. IsFew (lead of) (shown s)) seats
   pub widest : ℕ
-  pub wide_most : (w : ℕ) → w < count of → wide of w ≤ widest
+  pub wide_most : IsWidest (wide of) (count of) widest
   pub rooms : All (IsRoomy (lead of) (count of) widest (last of)) seats
 
 -- a fresh board: all words are 0, and the hub's seat is selected

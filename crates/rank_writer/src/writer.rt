@@ -1,5 +1,7 @@
-ghost use Rattle.std.specs.Prelude.{◌≡◌, ◌<◌, IsTrue, ◌↔◌, ◌≤◌};
-ghost use Rattle.rank_writer.specs.Writers.{IsFresh};
+ghost use Rattle.std.specs.Prelude.{◌≡◌, ◌<◌, ℕ, [], None, IsTrue, ◌↔◌, ◌≤◌};
+ghost use Rattle.rank_writer.specs.Writers.{IsFresh, StandsFor};
+ghost use Rattle.window_words.specs.Views.{OwnsOne};
+ghost use Rattle.window_words.specs.declared.views.View.{View};
 
 use put_codec::RunMeaning;
 use window_words::Meaning;
@@ -27,7 +29,9 @@ impl RankWriter {
     /// A rank that has written nothing.
     pub fn new(of: &RunMeaning, rank: usize) -> RankWriter
         requires { rank < of.now.layout.ranks }
-        ensures { IsFresh of.now.layout rank result }
+        ensures fresh { IsFresh of.now.layout rank result }
+        ensures stands { (v : View) (k : ℕ) → OwnsOne v rank [] → v.pending ≡ None →
+            StandsFor of.now.layout v result k }
     {
         RankWriter {
             rank,

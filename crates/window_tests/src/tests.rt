@@ -1,4 +1,5 @@
-ghost use Rattle.std.specs.Prelude.{◌≡◌, ◌<◌};
+ghost use Rattle.std.specs.Prelude.{◌≡◌, ◌<◌, IsTrue};
+ghost use Rattle.window_tests.specs.Words.{words_at};
 
 use crate::bench::Bench;
 use crate::stops::stop_told;
@@ -41,7 +42,9 @@ fn read_on(bench: &mut Bench, steps: usize) -> Read {
 }
 
 /// Whether these are the words of a rank's part of a put.
-pub fn is_part(words: &[u64], rank: usize, put: u64, width: usize) -> bool {
+pub fn is_part(words: &[u64], rank: usize, put: u64, width: usize) -> bool
+    ensures { IsTrue result → words.now ≡ words_at width rank put }
+{
     for place in 0..words.len() {
         if words[place] != word_at(rank, put, place) {
             return false;

@@ -7,7 +7,7 @@ pub loop-window-init : goal.loop-window-init
 loop-window-init g c = widest_none (g.M.Meaning.wide c.args.of.now)
 
 pub loop-window-preserved : goal.loop-window-preserved
-loop-window-preserved g c = widest_more (g.M.Meaning.wide c.args.of.now) c.loop-window.window c.loop-window.widest _ _ c.loop-window.invariant c.width-width.ensures (omega arith) (omega arith)
+loop-window-preserved g c = widest_more (g.M.Meaning.wide c.args.of.now) c.loop-window.window c.loop-window.widest _ _ c.loop-window.invariant c.width-width.ensures (omega arith) (omega arith) (λ m a b. omega (arith, a, b))
 
 pub returns : goal.returns
 returns g c =

@@ -1,0 +1,13 @@
+pub mod Outcomes
+pub mod Fronts
+pub mod HubMoves
+pub mod RankMoves
+pub mod RoundWork
+pub mod SpokeWork
+pub mod AtRest
+pub mod Cutting
+pub mod Saying
+pub mod Logs
+pub mod Reaching
+pub mod Deciding
+pub mod SpokeLeads
