@@ -3,3 +3,4 @@ mod EntryMoves
 mod ActivityBounds
 mod PlanValues
 mod PlanFailures
+mod MultiplierDecisions

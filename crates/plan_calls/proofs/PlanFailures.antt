@@ -46,7 +46,7 @@ holds_silent : {B : Type 0} (t : Bool) (b : B) → t ≡ true → (if t then Non
 holds_silent t b h = ap (λ u. if u then None else Some b) h
 
 -- none of the numbers below n answers
-none_below : {B : Type 0} (f : ℕ → Option B) (n : ℕ) → ((k : ℕ) → k < n → f k ≡ None) → first_some f (range_with_len 0 n) ≡ None
+pub none_below : {B : Type 0} (f : ℕ → Option B) (n : ℕ) → ((k : ℕ) → k < n → f k ≡ None) → first_some f (range_with_len 0 n) ≡ None
 none_below f n h =
     let xs = range_with_len 0 n in
     first_some-none f xs (recursion_from_All (λ k. f k ≡ None) xs (λ k d l. let at : get_or xs k d ≡ k = get_or-range_with_len 0 n k d (omega (arith, l, length-range_with_len 0 n)) ∙ omega arith in ap f at ∙ h k (omega (arith, l, length-range_with_len 0 n))))

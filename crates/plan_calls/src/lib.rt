@@ -5,9 +5,11 @@
 mod activities;
 mod costs;
 mod failure;
+mod laws;
 mod testing;
 mod values;
 
 pub use costs::cost;
 pub use failure::NoPlan;
+pub use laws::multipliers_are_decided;
 pub use testing::is_plan;

@@ -1,1 +1,3 @@
+pub mod Enclosing
+pub mod SoundBounds
 mod SpokeLogs

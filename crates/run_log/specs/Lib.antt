@@ -1,3 +1,4 @@
+pub mod Enclosing
 pub mod Events
 pub mod Runs
 pub use Rattle.bound_ledger.specs.Pairs

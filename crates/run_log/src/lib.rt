@@ -5,5 +5,5 @@
 mod laws;
 mod log;
 
-pub use laws::spokes_leave_logs;
+pub use laws::{runs_enclose, spokes_leave_logs};
 pub use log::{End, Event, Log, Source, Upper};

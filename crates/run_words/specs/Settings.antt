@@ -1,5 +1,6 @@
--- The options that stand behind the files, each with a name, a range and a default.
-use Rattle.std.specs.Prelude.{ℕ, ◌+◌, ◌-◌, ◌*◌, ◌/◌, ◌<◌, List, [], ◌∷◌, Bool, Option, Some, None, length, codes, slice_index_or}
+-- The options that stand behind the files, each with a name, a range and a default. Words are here
+-- those behind the files.
+use Rattle.std.specs.Prelude.{ℕ, ◌+◌, ◌*◌, ◌/◌, ◌<◌, List, [], ◌∷◌, Bool, true, false, Option, Some, None, length, codes, slice_index_or}
 use Rattle.std.specs.List.{filter, list_all, list_any, range_with_len}
 use Rattle.std.specs.Str.{bytes_eq}
 use Rattle.run_words.specs.Numerals.{number_in}
@@ -24,6 +25,20 @@ max_rho = 1000000000
 abbrev pub max_iterations : ℕ
 max_iterations = 100000
 
+abbrev pub max_ranks : ℕ
+max_ranks = 16
+
+-- of all kinds together
+abbrev pub max_spokes : ℕ
+max_spokes = 16
+
+-- there are no xhat spokes yet
+abbrev pub max_xhat : ℕ
+max_xhat = 0
+
+abbrev pub max_gap : ℕ
+max_gap = 1000000000000000000
+
 abbrev pub max_budget : ℕ
 max_budget = 1000000000
 
@@ -40,6 +55,19 @@ abbrev pub iterations_option : Setting
 iterations_option =
     record { name = codes "--iterations"; least = 0; greatest = max_iterations; default = 20 }
 
+abbrev pub ranks_option : Setting
+ranks_option = record { name = codes "--ranks"; least = 1; greatest = max_ranks; default = 1 }
+
+abbrev pub lagrangian_option : Setting
+lagrangian_option =
+    record { name = codes "--lagrangian"; least = 0; greatest = max_spokes; default = 1 }
+
+abbrev pub xhat_option : Setting
+xhat_option = record { name = codes "--xhat"; least = 0; greatest = max_xhat; default = 0 }
+
+abbrev pub gap_option : Setting
+gap_option = record { name = codes "--gap"; least = 0; greatest = max_gap; default = 0 }
+
 abbrev pub budget_option : Setting
 budget_option =
     record { name = codes "--budget"; least = 1; greatest = max_budget; default = 1000000 }
@@ -49,22 +77,24 @@ box_option = record { name = codes "--box"; least = 1; greatest = max_box; defau
 
 -- all of them
 abbrev pub settings : List Setting
-settings = scale_option ∷ rho_option ∷ iterations_option ∷ budget_option ∷ box_option ∷ []
+settings =
+    scale_option ∷ rho_option ∷ iterations_option ∷ ranks_option ∷ lagrangian_option ∷ xhat_option
+    ∷ gap_option ∷ budget_option ∷ box_option ∷ []
 
 -- the word at a place, empty past the end
 abbrev pub word_at : List (List ℕ) → ℕ → List ℕ
 word_at words k = slice_index_or words k []
 
--- how many pairs of a name and a value stand behind the first four words
+-- how many pairs of a name and a value the words are
 abbrev pub pair_count : List (List ℕ) → ℕ
-pair_count words = (length words - 4) / 2
+pair_count words = length words / 2
 
 -- the name and the value of pair k
 abbrev pub name_of : List (List ℕ) → ℕ → List ℕ
-name_of words k = word_at words (4 + 2 * k)
+name_of words k = word_at words (2 * k)
 
 abbrev pub option_value : List (List ℕ) → ℕ → List ℕ
-option_value words k = word_at words (5 + 2 * k)
+option_value words k = word_at words (2 * k + 1)
 
 -- whether a word is the name of an option
 abbrev pub is_option : List ℕ → Bool
@@ -85,6 +115,19 @@ given_by [] = Never
 given_by (k ∷ []) = Once k
 given_by (k ∷ other ∷ more) = Again
 
+-- how often the words give the option of this name
+abbrev pub times_given : List ℕ → List (List ℕ) → Given
+times_given name words = given_by (pairs_before name words (pair_count words))
+
+-- whether they give it
+abbrev pub is_some_time : Given → Bool
+is_some_time Never = false
+is_some_time (Once k) = true
+is_some_time Again = true
+
+abbrev pub is_given : List ℕ → List (List ℕ) → Bool
+is_given name words = is_some_time (times_given name words)
+
 -- an option's number: the default where it isn't given, the number of its value where it is given
 -- once
 abbrev pub number_by : Setting → List (List ℕ) → Given → Option ℕ
@@ -95,8 +138,7 @@ number_by setting words Again = None
 -- the number that the words set for an option; none where it is given twice, or by anything but a
 -- number in its range
 abbrev pub number_for : Setting → List (List ℕ) → Option ℕ
-number_for setting words =
-    number_by setting words (given_by (pairs_before setting.name words (pair_count words)))
+number_for setting words = number_by setting words (times_given setting.name words)
 
 -- one pair more of the name
 abbrev pub with_one : Given → ℕ → Given

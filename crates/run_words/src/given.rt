@@ -1,5 +1,5 @@
-ghost use Rattle.std.specs.Prelude.{◌≡◌, ◌<◌, ◌≤◌, ◌+◌, ◌-◌, ◌/◌, length, map, string_bytes};
-ghost use Rattle.run_words.specs.Settings.{IsBelow, given_by, name_of, pair_count, pairs_before, word_at, with_one};
+ghost use Rattle.std.specs.Prelude.{◌≡◌, ◌<◌, ◌≤◌, ◌+◌, ◌/◌, length, map, string_bytes};
+ghost use Rattle.run_words.specs.Settings.{IsBelow, given_by, is_given, name_of, option_value, pair_count, pairs_before, times_given, word_at, with_one};
 
 use wide_num::same;
 
@@ -34,11 +34,11 @@ pub fn word(words: &[String], k: usize) -> &str
     }
 }
 
-/// How many pairs of a name and a value stand behind the first four words.
+/// How many pairs of a name and a value the words are.
 pub fn pair_count(words: &[String]) -> usize
     ensures { result ≡ pair_count (map string_bytes words.now) }
 {
-    words.len().saturating_sub(4) / 2
+    words.len() / 2
 }
 
 /// The name of a pair that is there.
@@ -46,7 +46,15 @@ pub fn name_of(words: &[String], pair: usize) -> &[u8]
     requires { pair < pair_count (map string_bytes words.now) }
     ensures { result.now ≡ name_of (map string_bytes words.now) pair }
 {
-    word(words, 4 + 2 * pair).as_bytes()
+    word(words, 2 * pair).as_bytes()
+}
+
+/// The value of a pair that is there.
+pub fn option_value(words: &[String], pair: usize) -> &[u8]
+    requires { pair < pair_count (map string_bytes words.now) }
+    ensures { result.now ≡ option_value (map string_bytes words.now) pair }
+{
+    word(words, 2 * pair + 1).as_bytes()
 }
 
 // A pair more, if it begins with the name.
@@ -67,10 +75,7 @@ fn step(words: &[String], name: &[u8], pair: usize, given: Given) -> Given
 
 /// How often the words give the option of this name.
 pub fn times_given(words: &[String], name: &[u8]) -> Given
-    ensures exact { result
-        ≡ given_by
-        (pairs_before name.now (map string_bytes words.now)
-        (pair_count (map string_bytes words.now))) }
+    ensures exact { result ≡ times_given name.now (map string_bytes words.now) }
     ensures below { IsBelow result (pair_count (map string_bytes words.now)) }
 {
     let mut given = Given::Never;
@@ -78,4 +83,15 @@ pub fn times_given(words: &[String], name: &[u8]) -> Given
         given = step(words, name, pair, given);
     }
     given
+}
+
+/// Whether the words give the option of this name.
+pub fn is_given(words: &[String], name: &[u8]) -> bool
+    ensures { result ≡ is_given name.now (map string_bytes words.now) }
+{
+    match times_given(words, name) {
+        Given::Never => false,
+        Given::Once(_) => true,
+        Given::Again => true,
+    }
 }

@@ -1,5 +1,5 @@
-//! What the words of a command ask for: what to do with which three files, and
-//! with which options.
+//! What the words of a command ask for: what to do with which files, and with
+//! which options.
 #![tactic(auto)]
 
 mod command;

@@ -1,7 +1,8 @@
 //! Bounds for stochastic programs in whole numbers: the program `sppy`.
 //!
-//! `wait CORE TIME STOCH [OPTION NUMBER]..` prints the wait-and-see bound, and `show`
-//! with the same words what the files make.
+//! `wait CORE TIME STOCH [OPTION NUMBER]..` prints the wait-and-see bound, `show` with
+//! the same words what the files make, and `drive CORE TIME STOCH SCHEDULE --xhat 0
+//! [OPTION NUMBER]..` each bound that a run by this schedule reaches.
 #![tactic(auto)]
 
 ghost use Rattle.std.specs.Prelude.{◌≡◌, ◌≢◌, ◌↔◌, IfErr, IfOk, None, OnErr, drop, map, string_bytes};

@@ -1,7 +1,12 @@
 -- What a load and reading of a file answers, from what the load gave and what the bytes mean.
-use Rattle.std.proofs.Common.{arith, ◌≡◌, ◌∙◌, ◌≤◌, ℕ, Bool, true, false, nat_le, List, Option, Some, None, Result, Ok, Err, length, refl, sym, ap, if◌then◌else◌}
+use Rattle.std.proofs.Common.{arith, ◌≡◌, ◌∙◌, ◌≤◌, ◌+◌, ℕ, Bool, true, false, nat_le, List, [], Option, Some, None, Result, Ok, Err, length, refl, sym, ap, subst, if◌then◌else◌}
 use Rattle.std.proofs.lemmas.Bool.Decides.{nat_tests}
+use Rattle.std.proofs.lemmas.List.Elements.{All-nil}
 use Rattle.io_edge.specs.Shelves.{FileTable}
+use Rattle.schedule_lines.specs.Schedules.{IsScheduleOf, IsTurnOf, crew_of}
+use Rattle.schedule_lines.specs.declared.schedule.Schedule.{Schedule}
+use Rattle.sp_model.specs.declared.program.Options.{Options}
+use Rattle.sppy_cli.specs.Causes.{IsOfCrew}
 use Rattle.sppy_cli.specs.Files.{max_file_bytes, said_in_file, told_as}
 use Rattle.sppy_cli.specs.Loads.{IsLongAt, Loads, LoadsBytes}
 use Rattle.sppy_cli.specs.declared.loads.FileFault.{FileFault}
@@ -52,3 +57,9 @@ loads_ended kind_of means shows bytes_of None name f gives = tt
 loads_ended kind_of means shows bytes_of (Some table) name (load.Wrong line kind) long = long_said kind_of means _ (line, kind) long
 loads_ended kind_of means shows bytes_of (Some table) name (load.Failed faults) gives = tt
 loads_ended kind_of means shows bytes_of (Some table) name load.Memory gives = tt
+
+-- no turns are those of any ranks and spokes
+pub none_of_crew : (options : Options) (schedule : Schedule) → schedule.turns ≡ [] → IsOfCrew options schedule
+none_of_crew options schedule e =
+    let crew = crew_of options.ranks (options.lagrangian + options.xhat) in
+    subst (IsScheduleOf crew) (sym e) (record { each = All-nil (IsTurnOf crew); few = omega arith })

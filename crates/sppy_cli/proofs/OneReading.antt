@@ -1,4 +1,4 @@
--- The three files of a request say one core, one list of periods and one stoch file's data, or one fault.
+-- The files of a request say one core, one list of periods, one stoch file's data and one schedule, or one fault.
 use Rattle.std.proofs.Common.{◌≡◌, ◌∙◌, ℕ, List, Option, Some, Ok, Err, Result, sym, ap, subst}
 use Rattle.std.specs.FinMap.{get}
 use Rattle.io_edge.specs.Shelves.{FileTable}
@@ -7,8 +7,11 @@ use Rattle.smps_core.specs.CoreData.{IsCoreOf}
 use Rattle.smps_stoch.specs.declared.stoch.Stoch.{Stoch}
 use Rattle.smps_words.specs.declared.core_file.Core.{Core}
 use Rattle.smps_words.specs.declared.periods.Periods.{Periods}
-use Rattle.sppy_cli.specs.Causes.{IsFaulty, StochFails, TimeFails, input_at}
-use Rattle.sppy_cli.specs.Files.{ArePeriodsIn, AreRead, IsCoreIn, IsSaidIn, IsStochIn, ShowsPeriods, ShowsStoch, core_file, stoch_file, time_file}
+use Rattle.join_words.specs.RunOf.{options_of}
+use Rattle.sp_model.specs.declared.run.Run.{Run}
+use Rattle.sppy_cli.specs.Causes.{IsFaulty, IsInstanceOf, IsRunOf, ScheduleFails, StochFails, TimeFails, input_at, joined_of}
+use Rattle.sppy_cli.specs.Files.{ArePeriodsIn, AreRead, HasSchedule, IsCoreIn, IsSaidIn, IsStochIn, ShowsPeriods, ShowsStoch, ShowsTurns, core_file, schedule_file, stoch_file, time_file}
+use Rattle.sppy_cli.specs.declared.instance.Instance.{Instance}
 use Rattle.sppy_cli.specs.declared.instance.Triple.{Triple}
 use Rattle.sppy_cli.specs.declared.status.InputFile.{InputFile}
 use Rattle.sppy_cli.specs.declared.status.InputFile.TheVariants as file
@@ -78,3 +81,14 @@ no_stoch_cause table request triple s read (core, periods, is, are, (fault, said
     let both = one_periods (get table request.time) triple.core periods triple.periods (subst (λ c. ArePeriodsIn c (get table request.time) periods) same are) read.periods_are in
     let beside = subst (λ p. stoch_file triple.core p (get table request.stoch) ≡ Some (Err fault)) both (subst (λ c. stoch_file c periods (get table request.stoch) ≡ Some (Err fault)) same said) in
     clash ShowsStoch (stoch_file triple.core triple.periods (get table request.stoch)) triple.stoch fault read.stoch_is beside
+
+-- one set of data has one run's options
+pub same_options : (request : Request) (d e : Triple) (r q : Run) → d ≡ e → IsRunOf request d r → IsRunOf request e q → r.options ≡ q.options
+same_options request d e r q same joined also = joined.options_are ∙ ap (λ t. options_of (joined_of request t) request.options) same ∙ sym also.options_are
+
+-- an instance's schedule has no fault beside its run
+pub no_schedule_cause : (table : FileTable) (request : Request) (i : Instance) (s : Status) → IsInstanceOf (Some table) request i → ScheduleFails table request s → ⊥
+no_schedule_cause table request i s (read, joined, has) (triple, run, name, also, too, is, (fault, said, e)) =
+    let same = same_options request triple i.triple run i.run (one_triple table request triple i.triple also read) too joined in
+    let beside = subst (λ o. schedule_file o (get table name) ≡ Some (Err fault)) same said in
+    clash ShowsTurns (schedule_file i.run.options (get table name)) i.schedule fault (subst (λ n. HasSchedule table n i.run.options i.schedule) is has) beside

@@ -7,9 +7,13 @@ use Rattle.base_words.proofs.ListSumsByNumber.{range_more, take_range}
 use Rattle.io_edge.proofs.Writing.{appended_twice, front_after, front_of_front, front_whole}
 use Rattle.io_edge.specs.Sinks.{AppendsFront, appended}
 use Rattle.run_words.specs.declared.command.Action.{Action}
-use Rattle.run_words.specs.declared.command.Action.TheVariants.{Wait, Show}
+use Rattle.run_words.specs.declared.command.Action.TheVariants.{Wait, Show, Drive}
+use Rattle.run_log.specs.Runs.{IsRun}
+use Rattle.run_log.specs.declared.log.Log.{Log}
+use Rattle.run_text.specs.Bodies.{IsBody}
+use Rattle.drive_words.specs.Driving.{IsDriven}
 use Rattle.sp_model.specs.Problems.{wait_and_see_of}
-use Rattle.sppy_cli.specs.Texts.{CutsBound, CutsText, IsWaitRest, PutsBound, PutsText, Writes, WritesBoundFront, WritesFront, WritesRest, heading_text, row_places_of, show_rest}
+use Rattle.sppy_cli.specs.Texts.{CutsBound, CutsText, IsDriveRest, IsWaitRest, PutsBound, PutsLog, PutsText, Writes, WritesBoundFront, WritesFront, WritesRest, heading_text, row_places_of, show_rest}
 use Rattle.sppy_cli.specs.declared.instance.Instance.{Instance}
 use Rattle.sppy_cli.specs.declared.status.Status.{Status}
 use Rattle.sppy_cli.specs.declared.status.Status.TheVariants as status
@@ -138,6 +142,22 @@ bound_cut i bound old new (status.Infeasible scenario) b never = absurd never
 bound_cut i bound old new (status.Spent scenario opened) b never = absurd never
 bound_cut i bound old new (status.Wide reach) b never = absurd never
 bound_cut i bound old new (status.ReadFault faults) b never = absurd never
+
+-- how `drive` ends where the lines of its log were put, and where they were cut
+pub log_written : {U : Type 0} (i : Instance) (log : Log) (old new : Written) (u : U) → IsRun i.run log → IsDriven i.run i.schedule.turns log → PutsLog i.run log old new (Ok u) →
+    (rest : List ℕ) × IsDriveRest i rest × (new ≡ appended old rest)
+log_written i log old new u run driven (lines, h, e) = (concat lines, (log, lines, run, driven, h, refl), e)
+
+pub log_cut : (U : Type 0) (i : Instance) (log : Log) (old new : Written) (s : Status) → IsRun i.run log → IsDriven i.run i.schedule.turns log → PutsLog {U = U} i.run log old new (Err s) → WritesRest Drive i old new s
+log_cut U i log old new (status.WriteFault faults) run driven (lines, h, front) = (concat lines, (log, lines, run, driven, h, refl), front)
+log_cut U i log old new status.Memory run driven (lines, h, front) = inr (concat lines, (log, lines, run, driven, h, refl), front)
+log_cut U i log old new status.Done run driven (lines, h, never) = absurd never
+log_cut U i log old new status.Words run driven (lines, h, never) = absurd never
+log_cut U i log old new (status.Input fault) run driven (lines, h, never) = absurd never
+log_cut U i log old new (status.Infeasible scenario) run driven (lines, h, never) = absurd never
+log_cut U i log old new (status.Spent scenario opened) run driven (lines, h, never) = absurd never
+log_cut U i log old new (status.Wide reach) run driven (lines, h, never) = absurd never
+log_cut U i log old new (status.ReadFault faults) run driven (lines, h, never) = absurd never
 
 -- the heading and what was written behind it
 pub text_written : (action : Action) (i : Instance) (old mid new : Written) (s : Status) → mid ≡ appended old (heading_text i) → WritesRest action i mid new s → Writes action i old new s

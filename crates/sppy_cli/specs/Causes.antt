@@ -1,5 +1,5 @@
--- The run of a request, and the causes why there is none.
-use Rattle.std.specs.Prelude.{◌≡◌, ◌≢◌, ◌⊎◌, ◌<◌, ℕ, length, Option, Some, IfSome, Err, Result}
+-- The instance of a request, and the causes why there is none.
+use Rattle.std.specs.Prelude.{◌≡◌, ◌≢◌, ◌⊎◌, ◌<◌, ◌+◌, ℕ, List, length, Option, Some, IfSome, Err, Result}
 use Rattle.std.specs.FinMap.{get}
 use Rattle.io_edge.specs.Shelves.{FileTable}
 use Rattle.join_words.specs.Joining.{IsJoined, IsRefused, source_of}
@@ -7,10 +7,14 @@ use Rattle.join_words.specs.Framing.{Source}
 use Rattle.join_words.specs.declared.fault.JoinFault.{JoinFault}
 use Rattle.join_words.specs.declared.fault.JoinFault.TheVariants as join
 use Rattle.run_words.specs.Words.{Request}
+use Rattle.schedule_lines.specs.Schedules.{IsScheduleOf, crew_of}
+use Rattle.schedule_lines.specs.declared.schedule.Schedule.{Schedule}
 use Rattle.smps_words.specs.declared.core_file.Core.{Core}
 use Rattle.smps_words.specs.declared.periods.Periods.{Periods}
 use Rattle.smps_stoch.specs.StochFacts.{StochFacts}
-use Rattle.sppy_cli.specs.Files.{ArePeriodsIn, AreRead, IsCoreIn, core_file, stoch_file, time_file}
+use Rattle.sppy_cli.specs.Files.{ArePeriodsIn, AreRead, HasSchedule, IsCoreIn, core_file, schedule_file, stoch_file, time_file}
+use Rattle.sp_model.specs.declared.program.Options.{Options}
+use Rattle.sp_model.specs.declared.run.Run.{Run}
 use Rattle.sppy_cli.specs.declared.instance.Triple.{Triple}
 use Rattle.sppy_cli.specs.declared.instance.Instance.{Instance}
 use Rattle.sppy_cli.specs.declared.status.InputFile.{InputFile}
@@ -30,11 +34,21 @@ joined_of request triple = source_of triple.core triple.periods triple.stoch req
 abbrev pub AreReadFrom : Option FileTable → Request → Triple → Type 0
 AreReadFrom files request triple = IfSome files (λ table. AreRead table request triple)
 
--- an instance of a request: its data are what the three files say, where these are told, and its
--- run is the joined one
+-- the data make this run with the options of a request
+abbrev pub IsRunOf : Request → Triple → Run → Type 0
+IsRunOf request triple run = IsJoined (joined_of request triple) request.options run
+
+-- the schedule is what the request's schedule file says, where this is told
+abbrev pub IsScheduleFrom : Option FileTable → Request → Options → Schedule → Type 0
+IsScheduleFrom files request options schedule =
+    IfSome files (λ table. HasSchedule table request.schedule options schedule)
+
+-- an instance of a request: its data are what the files say, where these are told, and its run is
+-- the joined one
 abbrev pub IsInstanceOf : Option FileTable → Request → Instance → Type 0
 IsInstanceOf files request i =
-    AreReadFrom files request i.triple × IsJoined (joined_of request i.triple) request.options i.run
+    AreReadFrom files request i.triple × IsRunOf request i.triple i.run
+    × IsScheduleFrom files request i.run.options i.schedule
 
 -- the status of a fault of a file at a line, and of a refusal of the join
 abbrev pub input_at : InputFile → ℕ × InputKind → Status
@@ -83,14 +97,36 @@ JoinFails table request status =
     × (fault ≢ join.Memory)
     × (status ≡ status_of_join fault)
 
--- why a request has no run: the first of its files that has a fault, else what the join refuses
+-- the schedule has a fault beside the run of the three
+abbrev pub ScheduleFails : FileTable → Request → Status → Type 0
+ScheduleFails table request status =
+    (triple : Triple) × (run : Run) × (name : List ℕ)
+    × AreRead table request triple
+    × IsRunOf request triple run
+    × (request.schedule ≡ Some name)
+    × IsFaulty file.Schedule (schedule_file run.options (get table name)) status
+
+-- why a request has no instance: the first of its three files that has a fault, else what the join
+-- refuses, else the fault of its schedule
 abbrev pub IsCause : FileTable → Request → Status → Type 0
 IsCause table request status =
     CoreFails table request status ⊎ TimeFails table request status
     ⊎ StochFails table request status ⊎ JoinFails table request status
+    ⊎ ScheduleFails table request status
 
 -- the data keep what their readers answer beside them: the core has a column, and the stoch file's
 -- data stand beside core and periods
 abbrev pub KeepsFacts : Triple → Type 0
 KeepsFacts triple =
     (0 < length triple.core.columns) × StochFacts triple.core triple.periods triple.stoch
+
+-- the turns of a schedule are those of ranks and spokes that are there, and not too many
+abbrev pub IsOfCrew : Options → Schedule → Type 0
+IsOfCrew options schedule =
+    IsScheduleOf (crew_of options.ranks (options.lagrangian + options.xhat)) schedule.turns
+
+-- the same of an instance and its schedule; there are no xhat spokes yet
+pub record KeepsAll (i : Instance) : Type 0 where
+  pub facts : KeepsFacts i.triple
+  pub crew : IsOfCrew i.run.options i.schedule
+  pub alone : i.run.options.xhat ≡ 0

@@ -1,16 +1,20 @@
--- What the three files of a request say: their data, or their first fault.
-use Rattle.std.specs.Prelude.{◌≡◌, ℕ, List, length, Option, Some, None, Result, Ok, Err, nat_le, if◌then◌else◌}
+-- What the files of a request say: their data, or their first fault.
+use Rattle.std.specs.Prelude.{◌≡◌, ℕ, ◌+◌, List, [], length, Option, Some, None, Result, Ok, Err, nat_le, if◌then◌else◌}
 use Rattle.std.specs.FinMap.{get}
 use Rattle.core_lines.specs.Meaning.{meaning}
 use Rattle.core_lines.specs.Parts.{Before}
 use Rattle.io_edge.specs.Shelves.{FileTable}
 use Rattle.run_words.specs.Words.{Request}
+use Rattle.schedule_lines.specs.Schedules.{crew_of, schedule_meaning}
+use Rattle.schedule_lines.specs.declared.schedule.Schedule.{Schedule}
+use Rattle.schedule_lines.specs.declared.schedule.Turn.{Turn}
 use Rattle.smps_core.specs.CoreData.{IsCoreOf}
 use Rattle.smps_stoch.specs.StochMeaning.{stoch_meaning}
 use Rattle.smps_stoch.specs.declared.stoch.Stoch.{Stoch}
 use Rattle.smps_time.specs.TimeAnswers.{PeriodsData, data_of, names_of, time_meaning}
 use Rattle.smps_words.specs.declared.core_file.Core.{Core}
 use Rattle.smps_words.specs.declared.periods.Periods.{Periods}
+use Rattle.sp_model.specs.declared.program.Options.{Options}
 use Rattle.sppy_cli.specs.declared.instance.Triple.{Triple}
 use Rattle.sppy_cli.specs.declared.status.InputKind.{InputKind}
 use Rattle.sppy_cli.specs.declared.status.InputKind.TheVariants as kind
@@ -43,6 +47,11 @@ time_file core file = said_in_file kind.Time (time_meaning (names_of core)) file
 abbrev pub stoch_file : Core → Periods → Option (List ℕ) → Option (Result Stoch (ℕ × InputKind))
 stoch_file core periods file = said_in_file kind.Stoch (stoch_meaning core periods) file
 
+-- what the schedule says beside the ranks and spokes of a run with these options
+abbrev pub schedule_file : Options → Option (List ℕ) → Option (Result (List Turn) (ℕ × InputKind))
+schedule_file options file = said_in_file kind.Schedule
+    (schedule_meaning (crew_of options.ranks (options.lagrangian + options.xhat))) file
+
 -- a file says data that these show
 abbrev pub IsSaidIn : {V X : Type 0} → (V → X → Type 0) → Option (Result V (ℕ × InputKind)) → X
     → Type 0
@@ -69,3 +78,15 @@ pub record AreRead (table : FileTable) (request : Request) (triple : Triple) : T
   pub core_is : IsCoreIn (get table request.core) triple.core
   pub periods_are : ArePeriodsIn triple.core (get table request.time) triple.periods
   pub stoch_is : IsStochIn triple.core triple.periods (get table request.stoch) triple.stoch
+
+-- the schedule that a file says beside the ranks and spokes of a run
+abbrev pub ShowsTurns : List Turn → Schedule → Type 0
+ShowsTurns turns schedule = turns ≡ schedule.turns
+
+abbrev pub IsScheduleIn : Options → Option (List ℕ) → Schedule → Type 0
+IsScheduleIn options file schedule = IsSaidIn ShowsTurns (schedule_file options file) schedule
+
+-- the schedule of a request: what its file says, and no turns where it has no such file
+abbrev pub HasSchedule : FileTable → Option (List ℕ) → Options → Schedule → Type 0
+HasSchedule table None options schedule = schedule.turns ≡ []
+HasSchedule table (Some name) options schedule = IsScheduleIn options (get table name) schedule

@@ -4,6 +4,8 @@ use Rattle.core_lines.specs.declared.kinds.CoreKind.{CoreKind}
 use Rattle.core_lines.specs.declared.kinds.CoreKind.TheVariants as core
 use Rattle.smps_time.specs.declared.time_fault.TimeKind.{TimeKind}
 use Rattle.smps_time.specs.declared.time_fault.TimeKind.TheVariants as time
+use Rattle.schedule_lines.specs.declared.schedule_fault.ScheduleKind.{ScheduleKind}
+use Rattle.schedule_lines.specs.declared.schedule_fault.ScheduleKind.TheVariants as schedule
 use Rattle.stoch_lines.specs.declared.kinds.StochKind.{StochKind}
 use Rattle.stoch_lines.specs.declared.kinds.StochKind.TheVariants as stoch
 use Rattle.sppy_cli.specs.declared.status.JoinKind.{JoinKind}
@@ -19,6 +21,7 @@ file_word file.Core = codes "core"
 file_word file.Time = codes "time"
 file_word file.Stoch = codes "stoch"
 file_word file.Join = codes "join"
+file_word file.Schedule = codes "schedule"
 
 -- the kinds of a core file
 abbrev pub core_word : CoreKind → List ℕ
@@ -77,6 +80,14 @@ join_word join.Anticipates = codes "Anticipates"
 join_word join.TooManyScenarios = codes "TooManyScenarios"
 join_word join.TooManyCells = codes "TooManyCells"
 
+-- the kinds of a schedule
+abbrev pub schedule_word : ScheduleKind → List ℕ
+schedule_word schedule.NotAscii = codes "NotAscii"
+schedule_word schedule.LongLine = codes "LongLine"
+schedule_word schedule.Word = codes "Word"
+schedule_word schedule.Actor = codes "Actor"
+schedule_word schedule.Limit = codes "Limit"
+
 -- the name of a kind, without its file
 abbrev pub kind_word : InputKind → List ℕ
 kind_word kind.TooLong = codes "TooLong"
@@ -84,3 +95,4 @@ kind_word (kind.Core fault) = core_word fault
 kind_word (kind.Time fault) = time_word fault
 kind_word (kind.Stoch fault) = stoch_word fault
 kind_word (kind.Join fault) = join_word fault
+kind_word (kind.Schedule fault) = schedule_word fault

@@ -14,7 +14,11 @@ pub use Rattle.io_edge.specs.Shelves
 pub use Rattle.io_edge.specs.Sinks
 pub use Rattle.join_words.specs.Framing
 pub use Rattle.join_words.specs.Joining
+pub use Rattle.run_log.specs.Runs
+pub use Rattle.run_text.specs.Bodies
 pub use Rattle.run_words.specs.Words
+pub use Rattle.drive_words.specs.Driving
+pub use Rattle.schedule_lines.specs.Schedules
 pub use Rattle.smps_core.specs.CoreData
 pub use Rattle.smps_stoch.specs.StochFacts
 pub use Rattle.smps_stoch.specs.StochMeaning

@@ -2,8 +2,10 @@
 use Rattle.std.specs.Prelude.{◌≡◌, ◌⊎◌, ℕ, ◌<◌, ◌≤◌, length, List, [], ◌∷◌, Option, Some, None, Result, Ok, Err}
 use Rattle.std.specs.FinMap.{get}
 use Rattle.io_edge.specs.Shelves.{FileTable}
+use Rattle.schedule_lines.specs.declared.schedule.Schedule.{Schedule}
+use Rattle.sp_model.specs.declared.program.Options.{Options}
 use Rattle.sppy_cli.specs.Causes.{input_at}
-use Rattle.sppy_cli.specs.Files.{IsSaidIn, max_file_bytes}
+use Rattle.sppy_cli.specs.Files.{IsSaidIn, ShowsTurns, max_file_bytes, schedule_file}
 use Rattle.sppy_cli.specs.InTurn.{with_names}
 use Rattle.sppy_cli.specs.declared.loads.FileFault.{FileFault}
 use Rattle.sppy_cli.specs.declared.loads.FileFault.TheVariants.{Wrong, Failed, Memory}
@@ -44,6 +46,14 @@ Loads says shows (Some table) name (Err (Wrong line kind)) =
 Loads says shows (Some table) name (Err (Failed faults)) = Unit {0}
 Loads says shows (Some table) name (Err Memory) = Unit {0}
 
+-- the same of a schedule; where there is none, the empty one is answered
+abbrev pub LoadsSchedule : Option FileTable → Option (List ℕ) → Options
+    → Result Schedule FileFault → Type 0
+LoadsSchedule files None options (Ok schedule) = schedule.turns ≡ []
+LoadsSchedule files None options (Err fault) = ⊥
+LoadsSchedule files (Some name) options result =
+    Loads (schedule_file options) ShowsTurns files name result
+
 -- the name of the file was loaded, and no other; where memory is refused, maybe none
 abbrev pub LoadsNameAtFault : List ℕ → Option (List (List ℕ)) → Option (List (List ℕ)) → FileFault
     → Type 0
@@ -54,6 +64,12 @@ abbrev pub LoadsName : {X : Type 0} → List ℕ → Option (List (List ℕ)) �
     → Result X FileFault → Type 0
 LoadsName name old new (Ok x) = new ≡ with_names old (name ∷ [])
 LoadsName name old new (Err fault) = LoadsNameAtFault name old new fault
+
+-- nothing was loaded where there is no name
+abbrev pub LoadsNameIfAny : {X : Type 0} → Option (List ℕ) → Option (List (List ℕ))
+    → Option (List (List ℕ)) → Result X FileFault → Type 0
+LoadsNameIfAny None old new result = new ≡ old
+LoadsNameIfAny (Some name) old new result = LoadsName name old new result
 
 -- the count of faults that a failed load reports; no other fault of a file reports one
 abbrev pub load_fault_of : FileFault → Option ℕ

@@ -1,12 +1,17 @@
 -- The text of an instance, and what of it stands written by the status.
-use Rattle.std.specs.Prelude.{◌≡◌, ◌⊎◌, ℕ, ℤ, List, ◌++◌, Option, Some, Result, Ok, Err}
+use Rattle.std.specs.Prelude.{◌≡◌, ◌⊎◌, ⊤, ℕ, ℤ, List, ◌++◌, Option, Some, Result, Ok, Err}
 use Rattle.std.specs.List.{concat}
 use Rattle.io_edge.specs.Sinks.{AppendsFront, appended}
 use Rattle.join_words.specs.Framing.{frame_of, joined}
 use Rattle.run_words.specs.declared.command.Action.{Action}
-use Rattle.run_words.specs.declared.command.Action.TheVariants.{Wait, Show}
+use Rattle.run_words.specs.declared.command.Action.TheVariants.{Wait, Show, Drive}
+use Rattle.run_log.specs.Runs.{IsRun}
+use Rattle.run_log.specs.declared.log.Log.{Log}
+use Rattle.run_text.specs.Bodies.{IsBody}
+use Rattle.drive_words.specs.Driving.{IsDriven}
 use Rattle.sp_model.specs.Problems.{wait_and_see_of}
 use Rattle.sp_model.specs.ScenarioPoints.{IsFirstInfeasible}
+use Rattle.sp_model.specs.declared.run.Run.{Run}
 use Rattle.sppy_cli.specs.declared.instance.Instance.{Instance}
 use Rattle.sppy_cli.specs.declared.status.Status.{Status}
 use Rattle.sppy_cli.specs.declared.status.Status.TheVariants as status
@@ -37,10 +42,27 @@ IsWaitRest i rest =
 abbrev pub show_rest : Instance → List ℕ
 show_rest i = concat (show_lines_of i.triple.core i.run (row_places_of i))
 
+-- the text of `drive` behind the heading: that of a log which the run may have, and which its
+-- schedule gives
+abbrev pub IsDriveRest : Instance → List ℕ → Type 0
+IsDriveRest i rest =
+    (log : Log) × (lines : List (List ℕ))
+    × IsRun i.run log
+    × IsDriven i.run i.schedule.turns log
+    × IsBody i.run log lines
+    × (rest ≡ concat lines)
+
 -- the text of a command behind the heading
 abbrev pub IsRest : Action → Instance → List ℕ → Type 0
 IsRest Wait i rest = IsWaitRest i rest
 IsRest Show i rest = rest ≡ show_rest i
+IsRest Drive i rest = IsDriveRest i rest
+
+-- a command that solves each scenario for its first pair of bounds
+abbrev pub Solves : Action → Type 0
+Solves Wait = ⊤
+Solves Show = ⊥
+Solves Drive = ⊤
 
 -- the whole text of a command
 abbrev pub IsText : Action → Instance → List ℕ → Type 0
@@ -57,9 +79,9 @@ abbrev pub Writes : Action → Instance → Option (List ℕ) → Option (List �
 Writes action i old new status.Done =
     (text : List ℕ) × IsText action i text × (new ≡ appended old text)
 Writes action i old new (status.Infeasible scenario) =
-    (action ≡ Wait) × IsFirstInfeasible i.run scenario × (new ≡ appended old (heading_text i))
+    Solves action × IsFirstInfeasible i.run scenario × (new ≡ appended old (heading_text i))
 Writes action i old new (status.Spent scenario opened) =
-    (action ≡ Wait) × IsSpent i.run scenario opened × (new ≡ appended old (heading_text i))
+    Solves action × IsSpent i.run scenario opened × (new ≡ appended old (heading_text i))
 Writes action i old new (status.WriteFault faults) = WritesFront action i old new
 Writes action i old new status.Memory = WritesFront action i old new
 Writes action i old new _ = ⊥
@@ -82,9 +104,9 @@ abbrev pub WritesRest : Action → Instance → Option (List ℕ) → Option (Li
 WritesRest action i old new status.Done =
     (rest : List ℕ) × IsRest action i rest × (new ≡ appended old rest)
 WritesRest action i old new (status.Infeasible scenario) =
-    (action ≡ Wait) × IsFirstInfeasible i.run scenario × (new ≡ old)
+    Solves action × IsFirstInfeasible i.run scenario × (new ≡ old)
 WritesRest action i old new (status.Spent scenario opened) =
-    (action ≡ Wait) × IsSpent i.run scenario opened × (new ≡ old)
+    Solves action × IsSpent i.run scenario opened × (new ≡ old)
 WritesRest action i old new (status.WriteFault faults) =
     (rest : List ℕ) × IsRest action i rest × AppendsFront old new rest
 WritesRest action i old new status.Memory =
@@ -110,3 +132,9 @@ PutsBound i bound old new (Ok _) =
     (lines : List (List ℕ)) × IsBoundText bound (unit_of i.run) lines
     × (new ≡ appended old (concat lines))
 PutsBound i bound old new (Err status) = CutsBound i bound old new status
+
+-- the lines of a log were put, or cut
+abbrev pub PutsLog : {U : Type 0} → Run → Log → Option (List ℕ) → Option (List ℕ)
+    → Result U Status → Type 0
+PutsLog run log old new result =
+    (lines : List (List ℕ)) × IsBody run log lines × PutsText (concat lines) old new result

@@ -1,13 +1,14 @@
 ghost use Rattle.std.specs.Prelude.{◌≡◌, ◌↔◌, None, map, string_bytes};
 ghost use Rattle.io_edge.specs.Faults.{CountsTo};
 ghost use Rattle.run_words.specs.Words.{command_of};
-ghost use Rattle.sppy_cli.specs.Causes.{KeepsFacts};
+ghost use Rattle.sppy_cli.specs.Causes.{KeepsAll};
 ghost use Rattle.sppy_cli.specs.Complete.{Completes, RefusesAsked};
 ghost use Rattle.sppy_cli.specs.Desk.{Answers};
 ghost use Rattle.sppy_cli.specs.InTurn.{LoadsNames};
 ghost use Rattle.sppy_cli.specs.Statuses.{read_fault_of, write_fault_of};
 ghost use Rattle.sppy_cli.specs.Texts.{Writes, WritesRest};
 
+use crate::driving::write_drive;
 use crate::instance::Instance;
 use crate::puts::put_heading;
 use crate::reading::load_instance;
@@ -20,7 +21,7 @@ use std::alloc::Global;
 
 // Writes what a command tells behind the heading.
 fn write_rest<K: Sink>(alloc: Global, out: &mut K, action: Action, instance: &Instance) -> Status
-    requires { KeepsFacts instance.now.triple }
+    requires { KeepsAll instance.now }
     ensures written { WritesRest action instance.now (K.written out.old) (K.written out.new)
         result }
     ensures count { CountsTo (K.count out.old) (K.count out.new) (write_fault_of result) }
@@ -29,12 +30,13 @@ fn write_rest<K: Sink>(alloc: Global, out: &mut K, action: Action, instance: &In
     match action {
         Action::Wait => write_wait(alloc, out, instance),
         Action::Show => write_show(alloc, out, instance),
+        Action::Drive => write_drive(alloc, out, instance),
     }
 }
 
 // Writes the text of a command.
 fn write_text<K: Sink>(alloc: Global, out: &mut K, action: Action, instance: &Instance) -> Status
-    requires { KeepsFacts instance.now.triple }
+    requires { KeepsAll instance.now }
     ensures written { Writes action instance.now (K.written out.old) (K.written out.new) result }
     ensures count { CountsTo (K.count out.old) (K.count out.new) (write_fault_of result) }
     ensures read { read_fault_of result ≡ None }
@@ -63,11 +65,12 @@ pub fn desk<S: Shelf, K: Sink>(
     ensures answers { Answers (S.files shelf.old) (command_of (map string_bytes words.now))
         (K.written out.old) (K.written out.new) result }
 
-    // a cause why the files make no run is the one that is answered
+    // a cause why the files make no run, or the schedule fits none, is the one that is answered
     ensures refuses { RefusesAsked (S.files shelf.old) (command_of (map string_bytes words.now))
         result }
 
-    // where the files make a run and no fault is counted, the command ends by its run
+    // where the files make a run, the schedule fits it, and no fault is counted, the command ends
+    // by its run
     ensures complete { Completes (S.files shelf.old) (command_of (map string_bytes words.now))
         (S.count shelf.old) (S.count shelf.new) (K.count out.old) (K.count out.new) result }
 

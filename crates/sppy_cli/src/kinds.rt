@@ -1,8 +1,9 @@
 ghost use Rattle.std.specs.Prelude.{◌≡◌};
-ghost use Rattle.sppy_cli.specs.Kinds.{core_word, file_word, join_word, kind_word, stoch_word, time_word};
+ghost use Rattle.sppy_cli.specs.Kinds.{core_word, file_word, join_word, kind_word, schedule_word, stoch_word, time_word};
 
 use crate::status::{InputFile, InputKind, JoinKind};
 use core_lines::CoreKind;
+use schedule_lines::ScheduleKind;
 use smps_time::TimeKind;
 use stoch_lines::StochKind;
 
@@ -15,6 +16,7 @@ pub fn file_word(file: InputFile) -> &'static [u8]
         InputFile::Time => b"time",
         InputFile::Stoch => b"stoch",
         InputFile::Join => b"join",
+        InputFile::Schedule => b"schedule",
     }
 }
 
@@ -91,6 +93,18 @@ fn join_word(kind: JoinKind) -> &'static [u8]
     }
 }
 
+fn schedule_word(kind: ScheduleKind) -> &'static [u8]
+    ensures { result.now ≡ schedule_word kind }
+{
+    match kind {
+        ScheduleKind::NotAscii => b"NotAscii",
+        ScheduleKind::LongLine => b"LongLine",
+        ScheduleKind::Word => b"Word",
+        ScheduleKind::Actor => b"Actor",
+        ScheduleKind::Limit => b"Limit",
+    }
+}
+
 /// The name of a kind of fault, without its file.
 pub fn kind_word(kind: InputKind) -> &'static [u8]
     ensures { result.now ≡ kind_word kind }
@@ -101,5 +115,6 @@ pub fn kind_word(kind: InputKind) -> &'static [u8]
         InputKind::Time(kind) => time_word(kind),
         InputKind::Stoch(kind) => stoch_word(kind),
         InputKind::Join(kind) => join_word(kind),
+        InputKind::Schedule(kind) => schedule_word(kind),
     }
 }

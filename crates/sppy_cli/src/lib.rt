@@ -4,6 +4,7 @@
 
 mod code;
 mod commands;
+mod driving;
 mod instance;
 mod kinds;
 mod line;
@@ -21,6 +22,7 @@ pub use core_lines::CoreKind;
 pub use instance::Instance;
 pub use loads::MAX_FILE_BYTES;
 pub use reporting::report;
+pub use schedule_lines::ScheduleKind;
 pub use smps_time::TimeKind;
 pub use status::{InputFault, InputFile, InputKind, JoinKind, Status};
 pub use stoch_lines::StochKind;

@@ -1,20 +1,20 @@
-ghost use Rattle.std.specs.Prelude.{◌≡◌, IfOk};
+ghost use Rattle.std.specs.Prelude.{◌≡◌, IfOk, None};
 ghost use Rattle.io_edge.specs.Faults.{CountsTo};
 ghost use Rattle.run_words.specs.Words.{request_of};
 ghost use Rattle.sp_model.specs.RunFacts.{OptionFacts};
-ghost use Rattle.sppy_cli.specs.Causes.{KeepsFacts, join_at, status_of_join};
-ghost use Rattle.sppy_cli.specs.Desk.{LoadsFiles, LoadsInstance};
-ghost use Rattle.sppy_cli.specs.InTurn.{LoadsAllInTurn};
+ghost use Rattle.sppy_cli.specs.Causes.{KeepsAll, KeepsFacts, join_at, status_of_join};
+ghost use Rattle.sppy_cli.specs.Desk.{LoadsFiles, LoadsInstance, MakesRun};
+ghost use Rattle.sppy_cli.specs.InTurn.{LoadsAllInTurn, LoadsThreeInTurn};
 ghost use Rattle.sppy_cli.specs.Statuses.{read_fault_of, reported};
-ghost use Rattle.sppy_cli.specs.declared.instance.Instance.{Instance};
 
 use crate::instance::{Instance, Triple};
-use crate::loads::{load_core, load_stoch, load_time};
+use crate::loads::{load_core, load_schedule_if_any, load_stoch, load_time};
 use crate::status::{InputFault, InputFile, InputKind, JoinKind, Status};
 use io_edge::Shelf;
 use join_words::JoinFault;
 use run_words::Command;
 use smps_join::join;
+use sp_model::{Options, Run};
 use std::alloc::Global;
 
 // The status of a fault of the three files together.
@@ -41,7 +41,7 @@ fn status_of(fault: JoinFault) -> Status
     }
 }
 
-// Loads and reads the files of a command in turn, core, time and stoch.
+// Loads and reads three files of a command in turn, core, time and stoch.
 fn load_files<S: Shelf>(
     alloc: Global,
     shelf: &mut S,
@@ -50,7 +50,7 @@ fn load_files<S: Shelf>(
     ensures gives { LoadsFiles (S.files shelf.old) (request_of command.now) result }
     ensures keeps { IfOk result KeepsFacts }
     ensures files { S.files shelf.new ≡ S.files shelf.old }
-    ensures names { LoadsAllInTurn (S.files shelf.old) (request_of command.now)
+    ensures names { LoadsThreeInTurn (S.files shelf.old) (request_of command.now)
         (S.names shelf.old) (S.names shelf.new) result }
     ensures count { CountsTo (S.count shelf.old) (S.count shelf.new)
         (reported read_fault_of result) }
@@ -73,18 +73,34 @@ fn load_files<S: Shelf>(
     }
 }
 
-/// Loads the files of a command in turn, core, time and stoch, and makes their
-/// run. Each is loaded only where those before it were loaded and have no fault.
-/// Where there is no run, the answer is the status of the command: the first
-/// fault of a file, what the join refuses, a read fault, or want of memory.
+// The run that three files make with these options, or the status of a refusal.
+fn run_of(alloc: Global, triple: &Triple, options: &Options) -> Result<Run, Status>
+    requires facts { KeepsFacts triple.now }
+    requires ranges { OptionFacts options.now }
+    ensures gives { MakesRun triple.now options.now result }
+    ensures read { reported read_fault_of result ≡ None }
+{
+    match join(alloc, &triple.core, &triple.periods, &triple.stoch, options) {
+        Ok(run) => Ok(run),
+        Err(fault) => Err(status_of(fault)),
+    }
+}
+
+/// Loads the files of a command in turn, core, time and stoch, makes their run,
+/// and then loads the schedule, if it has one. Each is loaded only where those
+/// before it were loaded and have no fault, and the schedule only where there is
+/// a run. Where there is none, or the schedule has a fault, the answer is the
+/// status of the command: the first fault of a file, what the join refuses, a
+/// read fault, or want of memory.
 pub fn load_instance<S: Shelf>(
     alloc: Global,
     shelf: &mut S,
     command: &Command<'_>,
 ) -> Result<Instance, Status>
-    requires { OptionFacts command.now.options }
+    requires range { OptionFacts command.now.options }
+    requires alone { command.now.options.xhat ≡ 0 }
     ensures gives { LoadsInstance (S.files shelf.old) (request_of command.now) result }
-    ensures keeps { IfOk result (λ (instance : Instance). KeepsFacts instance.triple) }
+    ensures keeps { IfOk result KeepsAll }
     ensures files { S.files shelf.new ≡ S.files shelf.old }
     ensures names { LoadsAllInTurn (S.files shelf.old) (request_of command.now)
         (S.names shelf.old) (S.names shelf.new) result }
@@ -95,14 +111,16 @@ pub fn load_instance<S: Shelf>(
         Ok(triple) => triple,
         Err(status) => return Err(status),
     };
-    match join(
-        alloc,
-        &triple.core,
-        &triple.periods,
-        &triple.stoch,
-        &command.options,
-    ) {
-        Ok(run) => Ok(Instance { triple, run }),
-        Err(fault) => Err(status_of(fault)),
+    let run = match run_of(alloc, &triple, &command.options) {
+        Ok(run) => run,
+        Err(status) => return Err(status),
+    };
+    match load_schedule_if_any(alloc, shelf, command.schedule, &run) {
+        Ok(schedule) => Ok(Instance {
+            triple,
+            run,
+            schedule,
+        }),
+        Err(failure) => Err(failure.status(InputFile::Schedule)),
     }
 }

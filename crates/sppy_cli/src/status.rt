@@ -1,14 +1,17 @@
 use core_lines::CoreKind;
+use schedule_lines::ScheduleKind;
 use smps_time::TimeKind;
 use stoch_lines::StochKind;
 
-/// A file of the command, by what it is; `Join` stands for all three together.
+/// A file of the command, by what it is; `Join` stands for core, time and stoch
+/// together.
 #[derive(Clone, Copy, Debug, Drop, PartialEq, Eq)]
 pub enum InputFile {
     Core,
     Time,
     Stoch,
     Join,
+    Schedule,
 }
 
 /// Why three files without a fault make no run.
@@ -32,6 +35,7 @@ pub enum InputKind {
     Time(TimeKind),
     Stoch(StochKind),
     Join(JoinKind),
+    Schedule(ScheduleKind),
 }
 
 /// A fault of a file, with the line where it stands; 0 for the file as a whole.

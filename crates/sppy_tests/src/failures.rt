@@ -49,7 +49,20 @@ fn words_are_refused(rt: HostRuntime) -> Result<(), Fail> {
         "wait core time stoch --box 0",
         "wait core time stoch --budget 0",
         "wait core time stoch --budget 1000000001",
-        "wait core time stoch --ranks 1",
+        "wait core time stoch --ranks 0",
+        "wait core time stoch --ranks 17",
+        "wait core time stoch --lagrangian 17",
+        "wait core time stoch --xhat 1",
+        "show core time stoch --xhat 1",
+        "wait core time stoch --gap 1000000000000000001",
+        "wait core time stoch other --xhat 0",
+        "drive core time stoch --xhat 0",
+        "drive core time stoch schedule",
+        "drive core time stoch schedule --xhat 1",
+        "drive core time stoch schedule --xhat 0 --xhat 0",
+        "drive core time stoch schedule --ranks 2",
+        "drive core time stoch -schedule --xhat 0",
+        "drive core time stoch schedule other --xhat 0",
         "wait core time stoch 2 --scale",
         "wait --scale 2 core time stoch",
         "wait core time stoch --scale 00000000000000000002",
@@ -59,6 +72,7 @@ fn words_are_refused(rt: HostRuntime) -> Result<(), Fail> {
     for given in [
         "wait core time stoch --rho 1 --scale 0000000000000000002",
         "wait core time stoch --box 1 --iterations 0 --scale 2 --budget 1000",
+        "wait core time stoch --scale 2 --ranks 16 --lagrangian 16 --xhat 0 --gap 1000000000000000000",
     ] {
         expect(&rt, &failed(alloc, given, 0, 0)?, Status::Done, TEXT, given);
     }

@@ -5,6 +5,8 @@
 #[cfg(test)]
 mod commands;
 #[cfg(test)]
+mod drives;
+#[cfg(test)]
 mod failures;
 #[cfg(test)]
 mod fixtures;

@@ -1,6 +1,8 @@
 use crate::fixtures::input;
 use io_edge::{EdgeFault, MemorySink, SureSink};
-use sppy_cli::{CoreKind, InputFile, InputKind, JoinKind, Status, StochKind, TimeKind, report};
+use sppy_cli::{
+    CoreKind, InputFile, InputKind, JoinKind, ScheduleKind, Status, StochKind, TimeKind, report,
+};
 use std::test::Fail;
 
 #[test]
@@ -37,6 +39,15 @@ fn statuses_are_told(rt: HostRuntime) -> Result<(), Fail> {
             input(InputFile::Join, 0, InputKind::Join(JoinKind::TooManyCells)),
             3,
             "sppy: input join line 0 TooManyCells\n",
+        ),
+        (
+            input(
+                InputFile::Schedule,
+                1,
+                InputKind::Schedule(ScheduleKind::Actor),
+            ),
+            3,
+            "sppy: input schedule line 1 Actor\n",
         ),
         (
             Status::Infeasible { scenario: 0 },
