@@ -5,8 +5,7 @@ use std::alloc::{AllocError, Global};
 use std::test::Fail;
 
 // The scenario LOW of SMALL alone.
-const LOW_STOCH: &str =
-    "STOCH SMALL\nSCENARIOS DISCRETE\n SC LOW ROOT 1 T2\n RHS NEED 2\nENDATA\n";
+const LOW_STOCH: &str = "STOCH SMALL\nSCENARIOS DISCRETE\n SC LOW ROOT 1 T2\n RHS NEED 2\nENDATA\n";
 
 const DRIVE: &str = "drive core time stoch schedule --scale 2 --rho 1 --xhat 0";
 
