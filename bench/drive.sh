@@ -86,16 +86,18 @@ def row(preset, seed, penalty, folder, files):
     puts = sum(line.startswith("put ") for line in lines)
     within, besides = parts(words, folder) if status == 0 else ("-", "-")
     lower, upper, optimum = bound(lines, "lower"), bound(lines, "upper"), known(preset, seed)
-    apart = encloses = "-"
+    below = apart = encloses = "-"
+    if lower is not None and optimum:
+        below = f"{100 * float((optimum - lower) / abs(optimum)):.2f} %"
     if upper is not None and optimum:
         apart = f"{100 * float((upper - lower) / abs(optimum)):.2f} %"
     if lower is not None and optimum is not None:
         encloses = "yes" if lower <= optimum and (upper is None or optimum <= upper) else "NO"
-    return [preset, f"{penalty}", end, f"{puts}", f"{seconds:.2f}", within, besides, f"{memory / 1e6:.1f}", told(lower), told(upper), told(optimum), apart, encloses]
+    return [preset, f"{penalty}", end, f"{puts}", f"{seconds:.2f}", within, besides, f"{memory / 1e6:.1f}", told(lower), told(upper), told(optimum), below, apart, encloses]
 
 
 print(f"{os.cpu_count()} processors ({platform.machine()}), load {os.getloadavg()[0]:.1f}; seconds of a processor")
-heads = ["problem", "rho", "end", "puts", "seconds", "in searches", "besides", "MB", "lower", "upper", "optimum", "apart", "encloses"]
+heads = ["problem", "rho", "end", "puts", "seconds", "in searches", "besides", "MB", "lower", "upper", "optimum", "below", "apart", "encloses"]
 print("| " + " | ".join(heads) + " |\n|" + "---|" * len(heads))
 with tempfile.TemporaryDirectory() as work:
     for preset in presets:

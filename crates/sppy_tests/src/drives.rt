@@ -128,7 +128,7 @@ fn each_put_of_a_drive_may_fail(rt: HostRuntime) -> Result<(), Fail> {
         let found = driven(alloc, &given, SMALL[2], IN_TURN, 0, at as u64 + 1)?;
         let text = whole.get(..front).unwrap_or("");
         expect(&rt, &found, Status::WriteFault { faults: 1 }, text, line);
-        front += line.len();
+        front = front.saturating_add(line.len());
     }
     Ok(())
 }
