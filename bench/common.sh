@@ -70,16 +70,21 @@ build_driver() {
 }
 
 # $work/measure.py COMMAND WORD..: runs the command and prints its status, its seconds
-# of a processor and its greatest memory in bytes, and behind them what it wrote. It
-# stands alone, since a process that is started begins with its parent's greatest memory.
+# of a processor and its greatest memory in bytes, and behind them what it wrote. The memory
+# that the system counts for a process begins with its parent's, so `time`, which is small,
+# starts the command where it is installed; where it isn't, some 10 MB are the least that
+# is printed.
 cat >"$work/measure.py" <<'PY'
-import os, subprocess, sys
+import os, shutil, subprocess, sys, tempfile
 
-program = subprocess.Popen(sys.argv[1:], stdout=subprocess.PIPE, stderr=subprocess.STDOUT)
-text = program.stdout.read().decode(errors="replace")
-_, status, usage = os.wait4(program.pid, 0)
-program.returncode = os.waitstatus_to_exitcode(status)
-print(program.returncode, usage.ru_utime + usage.ru_stime, usage.ru_maxrss * 1024)
+with tempfile.NamedTemporaryFile() as counted:
+    counter = ["time", "-q", "-f", "%M", "-o", counted.name] if shutil.which("time") else []
+    program = subprocess.Popen([*counter, *sys.argv[1:]], stdout=subprocess.PIPE, stderr=subprocess.STDOUT)
+    text = program.stdout.read().decode(errors="replace")
+    _, status, usage = os.wait4(program.pid, 0)
+    program.returncode = os.waitstatus_to_exitcode(status)
+    greatest = int(counted.read()) if counter else usage.ru_maxrss
+print(program.returncode, usage.ru_utime + usage.ru_stime, greatest * 1024)
 print(text, end="")
 PY
 

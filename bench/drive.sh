@@ -9,12 +9,13 @@
 # from outside solvers, the bounds are held against that.
 # For each problem and penalty the table has how the run ended (the status where it
 # didn't), its puts, seconds of processor time, the part of them that lies in functions of
-# the search's crates and the part besides (`-` where perf isn't there, and for a run of
-# too few samples to tell), the greatest memory in MB, the last pair of bounds in the
-# problem's own costs, the optimum, what the pair is apart as a part of the optimum, and
-# whether it encloses it. `-` stands where there is no figure.
+# the search's crates or what they call, and the part besides: start, reading, and what perf
+# can't name the caller of (`-` where perf isn't there, and for a run of too few samples to
+# tell); the greatest memory in MB, the last pair of bounds in the problem's own costs, the
+# optimum, how far the lower bound is below it and the pair is apart, as parts of the
+# optimum, and whether the pair encloses it. `-` stands where there is no figure.
 #
-# Needs: python3; the program is built first. perf where installed.
+# Needs: python3; the program is built first. perf and time where installed.
 # Takes: up to LIMIT seconds (the second argument, 120 where it isn't given) for a row.
 # Use: bench/drive.sh INSTANCES [LIMIT [PRESET..]]
 
@@ -36,26 +37,31 @@ expected = instances / "expected.json"
 KNOWN = json.loads(expected.read_text()).values() if expected.exists() else []
 
 
-def measured(words):
+def measured(words, folder):
     """The exit status of a command, its seconds of processor time, its greatest memory in
-    bytes and what it wrote. A process of its own counts the memory, since one that is
-    started begins with its parent's."""
-    count = "import os, subprocess, sys\np = subprocess.Popen(sys.argv[1:], stdout=subprocess.PIPE, stderr=subprocess.DEVNULL)\ntext = p.stdout.read()\n_, status, usage = os.wait4(p.pid, 0)\np.returncode = os.waitstatus_to_exitcode(status)\nsys.stderr.write(f'{p.returncode} {usage.ru_utime + usage.ru_stime} {usage.ru_maxrss * 1024}')\nsys.stdout.buffer.write(text)"
-    ran = subprocess.run([sys.executable, "-c", count, *words], capture_output=True, text=True)
-    status, seconds, memory = ran.stderr.split()
-    return int(status), float(seconds), int(memory), ran.stdout.splitlines()
+    bytes, none where no program counts it, and what it wrote. The memory that the system
+    counts for a process begins with its parent's, so a small program starts the command."""
+    counted = folder / "memory"
+    counter = ["time", "-q", "-f", "%M", "-o", str(counted)] if shutil.which("time") else []
+    ran = subprocess.Popen([*counter, *words], stdout=subprocess.PIPE, stderr=subprocess.DEVNULL, text=True)
+    text = ran.stdout.read()
+    _, status, usage = os.wait4(ran.pid, 0)
+    ran.returncode = os.waitstatus_to_exitcode(status)
+    memory = int(counted.read_text()) * 1024 if counter else None
+    return ran.returncode, usage.ru_utime + usage.ru_stime, memory, text.splitlines()
 
 
-def parts(words, folder):
-    """Which parts of the time lie in functions of the search, and besides."""
+def parts(words, folder, seconds):
+    """Which parts of the time lie in functions of the search and what they call, and besides."""
     if not shutil.which("perf"):
         return "-", "-"
     data = str(folder / "perf.data")
-    record = ["perf", "record", "-q", "-e", "cpu-clock", "-F", "499", "-o", data]
+    often = "499" if seconds > 0.5 else "4999"
+    record = ["perf", "record", "-q", "-e", "cpu-clock", "-F", often, "--call-graph", "dwarf,2048", "-o", data]
     subprocess.run([*record, *words], stdout=subprocess.DEVNULL, stderr=subprocess.DEVNULL)
-    script = ["perf", "script", "-i", data, "-F", "sym"]
-    names = subprocess.run(script, capture_output=True, text=True).stdout.split("\n")
-    names = [name for name in names if name.strip()]
+    script = ["perf", "script", "-i", data, "-F", "ip,sym"]
+    told = subprocess.run(script, capture_output=True, text=True).stdout.split("\n\n")
+    names = [chain for chain in told if chain.strip()]
     if len(names) < FEWEST_SAMPLES:
         return "-", "-"
     within = sum(any(crate in name for crate in SEARCH) for name in names)
@@ -80,11 +86,11 @@ def known(preset, seed):
 def row(preset, seed, penalty, folder, files):
     """A line of the table."""
     words = ["timeout", limit, program, "drive", *files, "--xhat", "0", "--rho", str(penalty)]
-    status, seconds, memory, lines = measured(words)
+    status, seconds, memory, lines = measured(words, folder)
     ends = [line[4:] for line in lines if line.startswith("end ")]
     end = ends[0] if ends else "time ran out" if status == 124 else f"status {status}"
     puts = sum(line.startswith("put ") for line in lines)
-    within, besides = parts(words, folder) if status == 0 else ("-", "-")
+    within, besides = parts(words, folder, seconds) if status == 0 else ("-", "-")
     lower, upper, optimum = bound(lines, "lower"), bound(lines, "upper"), known(preset, seed)
     below = apart = encloses = "-"
     if lower is not None and optimum:
@@ -93,7 +99,7 @@ def row(preset, seed, penalty, folder, files):
         apart = f"{100 * float((upper - lower) / abs(optimum)):.2f} %"
     if lower is not None and optimum is not None:
         encloses = "yes" if lower <= optimum and (upper is None or optimum <= upper) else "NO"
-    return [preset, f"{penalty}", end, f"{puts}", f"{seconds:.2f}", within, besides, f"{memory / 1e6:.1f}", told(lower), told(upper), told(optimum), below, apart, encloses]
+    return [preset, f"{penalty}", end, f"{puts}", f"{seconds:.2f}", within, besides, "-" if memory is None else f"{memory / 1e6:.1f}", told(lower), told(upper), told(optimum), below, apart, encloses]
 
 
 print(f"{os.cpu_count()} processors ({platform.machine()}), load {os.getloadavg()[0]:.1f}; seconds of a processor")

@@ -456,7 +456,7 @@ def shares(problem, budget):
     data = f"{work}/perf.data"
     record = ["perf", "record", "-q", "-F", "999", "-o", data, driver]
     subprocess.run([*record, *map(str, numbers_of(0, problem, budget))], stdout=subprocess.DEVNULL, stderr=subprocess.DEVNULL)
-    script = subprocess.run(["perf", "script", "-i", data, "-F", "sym"], stdout=subprocess.PIPE, stderr=subprocess.DEVNULL, text=True)
+    script = subprocess.run(["perf", "script", "-i", data, "-F", "ip,sym"], stdout=subprocess.PIPE, stderr=subprocess.DEVNULL, text=True)
     counts = dict.fromkeys([*GROUPS, "rest"], 0)
     for line in script.stdout.split("\n"):
         if line.strip():
