@@ -1,0 +1,7 @@
+mod Calling
+mod Crossing
+mod Desking
+mod Meanings
+mod Placing
+mod Seating
+mod Writing
